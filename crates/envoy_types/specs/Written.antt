@@ -1,0 +1,133 @@
+-- The value that spells a listener: keys in byte order, and no field that has its default.
+use Rattle.std.specs.Prelude.{ℕ, ◌==◌, Bool, true, false, List, [], ◌∷◌, ◌++◌, map, length, Option, Some, None, codes, if◌then◌else◌}
+use Rattle.serde_json.specs.Data.{Data, boolean, number, unsigned, string, array, object, Members, no_members, member, put}
+use Rattle.serde_json.specs.View.{items_of}
+use Rattle.envoy_types.specs.declared.listener.ChainBody.{ChainBody}
+use Rattle.envoy_types.specs.declared.listener.ChainBody.TheVariants.{Tcp}
+use Rattle.envoy_types.specs.declared.listener.ChainMatch.{ChainMatch}
+use Rattle.envoy_types.specs.declared.listener.FilterChain.{FilterChain}
+use Rattle.envoy_types.specs.declared.listener.Listener.{Listener}
+use Rattle.envoy_types.specs.declared.listener.NetworkFilter.{NetworkFilter}
+use Rattle.envoy_types.specs.declared.listener.NetworkFilter.TheVariants as filter
+use Rattle.envoy_types.specs.declared.listener.Transport.{Transport}
+use Rattle.envoy_types.specs.declared.listener.Transport.TheVariants.{RawBuffer, Tls}
+use Rattle.envoy_types.specs.declared.rbac.PermissionLeaf.{PermissionLeaf}
+use Rattle.envoy_types.specs.declared.rbac.PermissionLeaf.TheVariants.{DestinationPort}
+use Rattle.envoy_types.specs.declared.rbac.Principal.{Principal}
+use Rattle.envoy_types.specs.declared.rbac.Principal.TheVariants.{Any}
+use Rattle.envoy_types.specs.declared.rbac.RbacAction.{RbacAction}
+use Rattle.envoy_types.specs.declared.rbac.RbacAction.TheVariants.{Allow, Deny, Log}
+use Rattle.envoy_types.specs.declared.rbac.RbacPolicy.{RbacPolicy}
+use Rattle.envoy_types.specs.Names.{original_dst_name, original_dst_type, tls_inspector_name, tls_inspector_type, tls_socket_name, tls_socket_type, tcp_proxy_name, tcp_proxy_type, network_rbac_name, network_rbac_type}
+use Rattle.envoy_types.specs.Rules.{Rules}
+
+-- an object of these members, which stand in byte order of their keys
+abbrev pub fields : List (List ℕ × Data) → Members
+fields [] = no_members
+fields (entry ∷ entries) = member entry.0 entry.1 (fields entries)
+
+abbrev pub typed : List ℕ → Data
+typed type = object (fields ((codes "@type", string type) ∷ []))
+
+-- a part of the configuration by its name and its type's fields
+abbrev pub named : List ℕ → Data → Data
+named name config = object (fields ((codes "name", string name) ∷ (codes "typed_config", config) ∷ []))
+
+abbrev pub listener_filters : Data
+listener_filters = array (items_of (named original_dst_name (typed original_dst_type) ∷ named tls_inspector_name (typed tls_inspector_type) ∷ []))
+
+abbrev pub secret : List ℕ → Data
+secret name = object (fields ((codes "name", string name) ∷ []))
+
+abbrev pub tls_socket : Data
+tls_socket = named tls_socket_name (object (fields (
+    (codes "@type", string tls_socket_type)
+  ∷ (codes "common_tls_context", object (fields (
+        (codes "tls_certificate_sds_secret_configs", array (items_of (secret (codes "default") ∷ [])))
+      ∷ (codes "validation_context_sds_secret_config", secret (codes "ROOTCA"))
+      ∷ [])))
+  ∷ (codes "require_client_certificate", boolean true)
+  ∷ [])))
+
+abbrev pub permission : PermissionLeaf → Data
+permission (DestinationPort port) = object (fields ((codes "destination_port", number (unsigned port)) ∷ []))
+
+abbrev pub principal : Principal → Data
+principal Any = object (fields ((codes "any", boolean true) ∷ []))
+
+abbrev pub policy : RbacPolicy → Data
+policy p = object (fields (
+    (codes "permissions", array (items_of (map permission p.permissions)))
+  ∷ (codes "principals", array (items_of (map principal p.principals)))
+  ∷ []))
+
+-- the policies by their names
+abbrev pub policies : List RbacPolicy → Members
+policies [] = no_members
+policies (p ∷ ps) = put p.name (policy p) (policies ps)
+
+abbrev pub action : RbacAction → List ℕ
+action Allow = codes "ALLOW"
+action Deny = codes "DENY"
+action Log = codes "LOG"
+
+abbrev pub rules : Rules → Data
+rules r = object (fields ((codes "action", string (action r.action)) ∷ (codes "policies", object (policies r.policies)) ∷ []))
+
+abbrev pub with_rules : Option Rules → Members → Members
+with_rules None ms = ms
+with_rules (Some r) ms = put (codes "rules") (rules r) ms
+
+abbrev pub rbac_config : Option Rules → Data
+rbac_config r = object (with_rules r (fields ((codes "@type", string network_rbac_type) ∷ (codes "stat_prefix", string (codes "tcp.")) ∷ [])))
+
+abbrev pub network_filter : NetworkFilter → Data
+network_filter (filter.Rbac rbac) = named network_rbac_name (rbac_config rbac.rules)
+
+abbrev pub tcp_proxy : List ℕ → Data
+tcp_proxy cluster = named tcp_proxy_name (object (fields (
+    (codes "@type", string tcp_proxy_type)
+  ∷ (codes "cluster", string cluster)
+  ∷ (codes "stat_prefix", string cluster)
+  ∷ [])))
+
+abbrev pub body : ChainBody → Data
+body (Tcp filters cluster) = array (items_of (map network_filter filters ++ tcp_proxy cluster ∷ []))
+
+abbrev pub transport : Transport → List ℕ
+transport RawBuffer = codes "raw_buffer"
+transport Tls = codes "tls"
+
+abbrev pub with_transport : Option Transport → Members → Members
+with_transport None ms = ms
+with_transport (Some t) ms = put (codes "transport_protocol") (string (transport t)) ms
+
+abbrev pub with_port : Option ℕ → Members → Members
+with_port None ms = ms
+with_port (Some port) ms = put (codes "destination_port") (number (unsigned port)) ms
+
+abbrev pub with_names : List (List ℕ) → Members → Members
+with_names names ms = if length names == 0 then ms else put (codes "application_protocols") (array (items_of (map string names))) ms
+
+abbrev pub matching : ChainMatch → Data
+matching m = object (with_names m.alpn (with_port m.port (with_transport m.transport no_members)))
+
+abbrev pub with_socket : Bool → Members → Members
+with_socket false ms = ms
+with_socket true ms = put (codes "transport_socket") tls_socket ms
+
+abbrev pub chain : FilterChain → Data
+chain c = object (with_socket c.mutual_tls (fields (
+    (codes "filter_chain_match", matching c.matching)
+  ∷ (codes "filters", body c.body)
+  ∷ (codes "name", string c.name)
+  ∷ [])))
+
+abbrev pub written : Listener → Data
+written l = object (fields (
+    (codes "address", object (fields ((codes "socket_address", object (fields ((codes "address", string l.address) ∷ (codes "port_value", number (unsigned l.port)) ∷ []))) ∷ [])))
+  ∷ (codes "filter_chains", array (items_of (map chain l.chains)))
+  ∷ (codes "listener_filters", listener_filters)
+  ∷ (codes "name", string l.name)
+  ∷ (codes "traffic_direction", string (codes "INBOUND"))
+  ∷ []))

@@ -1,0 +1,4 @@
+pub mod Applies
+pub mod Connection
+pub mod MeshVerdict
+pub mod Rules

@@ -1,2 +1,25 @@
-//! Sources and sinks of bytes with a count of their faults.
+//! Sources and sinks of bytes, each with a count of its faults.
+//!
+//! Whoever reads or writes through them learns that a fault which is answered has happened: the
+//! count rose. Where an object tells its bytes, `read_all` and `write_all` promise which of them
+//! were taken, after a fault and for want of memory too, and in how many calls.
 #![tactic(auto)]
+
+mod clean;
+mod copy;
+mod error;
+mod memory_sink;
+mod memory_source;
+mod sink;
+mod source;
+mod system;
+mod transfer;
+
+pub use clean::{CleanSink, CleanSource};
+pub use error::{Failed, ReadError, WriteFault};
+pub use memory_sink::MemorySink;
+pub use memory_source::MemorySource;
+pub use sink::Sink;
+pub use source::Source;
+pub use system::{StdSink, StdSource};
+pub use transfer::{read_all, write_all};

@@ -1,0 +1,46 @@
+-- A sink in memory, whose writes fail by their number and where it is full.
+use Rattle.std.specs.Prelude.{ℕ, ◌-◌, ◌==◌, ◌||◌, Bool, List, ◌++◌, length, take, min, Result, Ok, Err, if◌then◌else◌}
+use Rattle.std.specs.List.{list_any}
+use Rattle.mesh_edge.specs.Causes.{next_count}
+use Rattle.mesh_edge.specs.declared.error.Failed.{Failed}
+
+pub record SinkState : Type 0 where
+  pub taken : List ℕ
+  -- how many of the bytes taken are flushed
+  pub flushed : ℕ
+  -- how many bytes it takes in all
+  pub room : ℕ
+  -- the numbers of the writes that fail
+  pub fails : List ℕ
+  -- how many bytes a write takes at most
+  pub most : ℕ
+  pub flush_fails : Bool
+  -- the number of the next write
+  pub number : ℕ
+  pub faults : ℕ
+
+abbrev pub room_left : SinkState → ℕ
+room_left s = s.room - length s.taken
+
+abbrev pub write_fails : SinkState → Bool
+write_fails s = room_left s == 0 || list_any (λ k. k == s.number) s.fails
+
+-- how many bytes of a piece a write takes, where it doesn't fail
+abbrev pub write_count : SinkState → List ℕ → ℕ
+write_count s piece = min (min s.most (length piece)) (room_left s)
+
+abbrev pub write_answer : SinkState → List ℕ → Result ℕ Failed
+write_answer s piece = if write_fails s then Err (record {}) else Ok (write_count s piece)
+
+abbrev pub after_write : SinkState → List ℕ → SinkState
+after_write s piece =
+    if write_fails s
+    then record s { number = next_count s.number; faults = next_count s.faults }
+    else record s { number = next_count s.number; taken = s.taken ++ take (write_count s piece) piece }
+
+abbrev pub flush_answer : SinkState → Result (Unit {0}) Failed
+flush_answer s = if s.flush_fails then Err (record {}) else Ok tt
+
+abbrev pub after_flush : SinkState → SinkState
+after_flush s =
+    if s.flush_fails then record s { faults = next_count s.faults } else record s { flushed = length s.taken }

@@ -1,0 +1,104 @@
+// A source and a sink that never fail.
+ghost use Rattle.std.specs.Prelude.{◌+◌, ◌++◌, ◌<◌, ◌≡◌, ◌≤◌, IfOk, IsOk, None, OnOk, Some, drop, length, min, take};
+ghost use Rattle.std.specs.Io.{ReadsAtMost};
+ghost use Rattle.std.specs.Io.KnownBytes.{Keeps, ReadConsumes, WriteAppends};
+ghost use Rattle.mesh_edge.specs.Causes.{HasCause};
+ghost use Rattle.mesh_edge.specs.Progress.{AllFlushed, NoFewer};
+
+use crate::copy::copy_front;
+use crate::{Failed, Sink, Source};
+use std::marker::Model;
+
+/// A source that gives the bytes it was made with, and never fails.
+#[derive(Debug, Drop)]
+pub struct CleanSource {
+    bytes: Vec<u8>,
+    at: usize,
+}
+
+impl Model for CleanSource {
+    ghost use Rattle.std.specs.Prelude.{◌≤◌, List, drop, length, ℕ};
+
+    // The bytes left.
+    ghost Value = { List ℕ };
+
+    ghost view = { λ s. drop s.at s.bytes.items };
+
+    ghost invariant = { λ s. s.at ≤ length s.bytes.items };
+}
+
+impl CleanSource {
+    pub fn new(bytes: Vec<u8>) -> CleanSource
+        ensures { result ≡ bytes.items }
+    {
+        CleanSource { bytes, at: 0 }
+    }
+}
+
+impl Source for CleanSource {
+    ghost left = { λ s. Some s };
+
+    ghost faults = { λ _. 0 };
+
+    ghost reads = { λ _. 0 };
+
+    fn read(&mut self, buf: &mut [u8]) -> Result<usize, Failed>
+        requires { 0 < length buf.old }
+        ensures bound { ReadsAtMost result buf.new }
+        ensures bytes { ReadConsumes (Some self.old) (Some self.new) result buf.new }
+        ensures cause { HasCause 0 0 result }
+        ensures turn { 0 ≤ 0 + 1 }
+        ensures answer { result ≡ Ok (min (length buf.old) (length self.old)) }
+        ensures after { IfOk result (λ n. self.new ≡ drop n self.old) }
+        ensures filled { IfOk result (λ n. buf.new ≡ take n self.old ++ drop n buf.old) }
+    {
+        let left = &self.bytes[self.at..];
+        let count = buf.len().min(left.len());
+        copy_front(left, buf, count);
+        self.at += count;
+        Ok(count)
+    }
+}
+
+/// A sink that takes every piece whole, keeps nothing, and never fails. It tells no bytes.
+#[derive(Clone, Copy, Debug, Default)]
+pub struct CleanSink;
+
+impl CleanSink {
+    pub fn new() -> CleanSink {
+        CleanSink
+    }
+}
+
+impl Sink for CleanSink {
+    ghost taken = { λ _. None };
+
+    ghost flushed = { λ _. None };
+
+    ghost faults = { λ _. 0 };
+
+    ghost writes = { λ _. 0 };
+
+    fn write(&mut self, piece: &[u8]) -> Result<usize, Failed>
+        requires { 0 < length piece.now }
+        ensures bound { IfOk result (λ n. (0 < n) × (n ≤ length piece.now)) }
+        ensures bytes { WriteAppends None None result piece.now }
+        ensures flushed { NoFewer None None }
+        ensures cause { HasCause 0 0 result }
+        ensures turn { 0 ≤ 0 + 1 }
+        ensures answer { result ≡ Ok (length piece.now) }
+    {
+        Ok(piece.len())
+    }
+
+    fn flush(&mut self) -> Result<(), Failed>
+        ensures bytes { Keeps None None }
+        ensures all { OnOk result (AllFlushed None None) }
+        ensures flushed { NoFewer None None }
+        ensures cause { HasCause 0 0 result }
+        ensures turn { 0 ≤ 0 }
+        ensures answer { IsOk result }
+    {
+        Ok(())
+    }
+}

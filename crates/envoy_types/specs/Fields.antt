@@ -35,9 +35,12 @@ passes test (Some x) = test x
 abbrev pub has : List ℕ → (Data → Bool) → Data → Bool
 has name test d = passes test (get name d)
 
+abbrev pub is_text : List ℕ → Data → Bool
+is_text text d = passes (bytes_eq text) (as_str d)
+
 -- the field is there and is that text
 abbrev pub says : List ℕ → List ℕ → Data → Bool
-says name text d = has name (λ v. passes (bytes_eq text) (as_str v)) d
+says name text d = has name (is_text text) d
 
 abbrev pub is_true : Data → Bool
 is_true null = false

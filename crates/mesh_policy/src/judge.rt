@@ -89,7 +89,9 @@ fn some_holds(policies: &[AuthorizationPolicy], pod: &Pod, case: &Case) -> bool
         .any(|policy| policy_holds(policy, case))
 }
 
-fn applies(pod: &Pod, policy: &AuthorizationPolicy) -> bool
+/// Whether a policy applies to a Pod: it stands in the Pod's namespace or in the root namespace,
+/// `istio-system`.
+pub fn applies(pod: &Pod, policy: &AuthorizationPolicy) -> bool
     ensures { result ≡ apply.applies pod.now policy.now }
 {
     policy.namespace == pod.namespace || policy.namespace.as_str() == "istio-system"

@@ -10,6 +10,6 @@ mod verdict;
 
 pub use bundle::{Bundle, Label, Pod};
 pub use case::{Case, Mode, Tls};
-pub use judge::mesh_verdict;
+pub use judge::{applies, mesh_verdict};
 pub use policy::{AuthorizationPolicy, OperationSpec, Rule};
 pub use verdict::{Outcome, Verdict};

@@ -1,4 +1,4 @@
-ghost use Rattle.std.specs.Prelude.{◌≡◌, ◌==◌, IfOk};
+ghost use Rattle.std.specs.Prelude.{◌≡◌, ◌==◌, IfOk, string_bytes};
 ghost use Rattle.std.specs.Hash as fed;
 ghost use Rattle.std.specs.Ordering.{nat_cmp, as_partial_cmp};
 ghost use Rattle.std.specs.Cmp.{partial_equiv_from_equiv};
@@ -35,6 +35,13 @@ impl Text {
         Ok(Text {
             inner: String::from_str(alloc, s)?,
         })
+    }
+
+    /// The text of a `String`, which it takes over.
+    pub fn from_string(inner: String) -> Text
+        ensures { result ≡ string_bytes inner }
+    {
+        Text { inner }
     }
 
     pub fn as_str(&self) -> &str

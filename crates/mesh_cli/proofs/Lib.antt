@@ -1,0 +1,3 @@
+mod Booleans
+mod NamesRise
+mod Verdict

@@ -1,0 +1,8 @@
+-- The policies' names rise, by what the manifests are known to be.
+use Rattle.std.proofs.Common.{◌≡◌, ap, ◌∙◌, true}
+use Rattle.envoy_types.specs.Rules.{names_rise}
+use Rattle.mesh_cli.proofs.NamesRise.{policies-rise}
+use Rattle.mesh_cli.proofs.build_rules.allow_filter.Goals as goal
+
+pub invariant_of-rules : goal.invariant_of-rules
+invariant_of-rules c = ap names_rise c.in_ok-policies.ensures ∙ policies-rise c.args.pod.now c.args.policies.now c.requires

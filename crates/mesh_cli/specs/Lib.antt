@@ -1,0 +1,5 @@
+pub mod Answer
+pub mod Built
+pub mod Command
+pub mod Document
+pub mod Gives

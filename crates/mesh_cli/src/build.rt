@@ -1,0 +1,99 @@
+// Builds the listener that enforces the policies of a Pod.
+ghost use Rattle.std.specs.Prelude.{◌≡◌, codes, true, false, IfOk, IsTrue};
+ghost use Rattle.mesh_policy.specs.Connection as connection;
+ghost use Rattle.mesh_cli.specs.Built as meaning;
+
+use crate::build_rules::filters;
+use envoy_types::{ChainBody, ChainMatch, FilterChain, Listener, NetworkFilter, Transport};
+use mesh_policy::{Bundle, Pod};
+use mesh_text::{List, Memory, Text};
+use std::alloc::Global;
+
+/// The listener of a Pod. For the ports that no chain names it has a chain each for mutual TLS, for
+/// plain text and for TLS that is passed on unread.
+#[tactic(auto, unfolding(crate::specs::Built::built))]
+pub fn build(alloc: Global, bundle: &Bundle, pod: &Pod) -> Result<Listener, Memory>
+    requires { IsTrue (meaning.is_buildable bundle.now) }
+    ensures { IfOk result (λ l. l ≡ meaning.built bundle.now pod.now) }
+{
+    let mut chains = List::new(alloc);
+    chains.push(mutual_chain(alloc, bundle, pod)?)?;
+    chains.push(plain_chain(alloc, bundle, pod)?)?;
+    chains.push(opaque_chain(alloc, bundle, pod)?)?;
+    Ok(Listener {
+        name: Text::of(alloc, "virtualInbound")?,
+        address: Text::of(alloc, "0.0.0.0")?,
+        port: 15006,
+        chains,
+    })
+}
+
+fn mutual_chain(alloc: Global, bundle: &Bundle, pod: &Pod) -> Result<FilterChain, Memory>
+    requires { IsTrue (meaning.is_buildable bundle.now) }
+    ensures { IfOk result (λ c. c ≡ meaning.chain_of (codes "any-mtls") meaning.mutual_match true (meaning.filters_of bundle.now pod.now)) }
+{
+    let matching = ChainMatch {
+        port: None,
+        transport: Some(Transport::Tls),
+        alpn: mesh_names(alloc)?,
+    };
+    chain(alloc, "any-mtls", matching, true, filters(alloc, bundle, pod)?)
+}
+
+fn plain_chain(alloc: Global, bundle: &Bundle, pod: &Pod) -> Result<FilterChain, Memory>
+    requires { IsTrue (meaning.is_buildable bundle.now) }
+    ensures { IfOk result (λ c. c ≡ meaning.chain_of (codes "any-plain") meaning.plain_match false (meaning.filters_of bundle.now pod.now)) }
+{
+    let matching = ChainMatch {
+        port: None,
+        transport: Some(Transport::RawBuffer),
+        alpn: List::new(alloc),
+    };
+    chain(alloc, "any-plain", matching, false, filters(alloc, bundle, pod)?)
+}
+
+fn opaque_chain(alloc: Global, bundle: &Bundle, pod: &Pod) -> Result<FilterChain, Memory>
+    requires { IsTrue (meaning.is_buildable bundle.now) }
+    ensures { IfOk result (λ c. c ≡ meaning.chain_of (codes "any-opaque") meaning.opaque_match false (meaning.filters_of bundle.now pod.now)) }
+{
+    let matching = ChainMatch {
+        port: None,
+        transport: Some(Transport::Tls),
+        alpn: List::new(alloc),
+    };
+    chain(alloc, "any-opaque", matching, false, filters(alloc, bundle, pod)?)
+}
+
+// The application protocols by which a sidecar of the mesh makes itself known.
+fn mesh_names(alloc: Global) -> Result<List<Text>, Memory>
+    ensures { IfOk result (λ names. names ≡ connection.mesh_names) }
+{
+    let mut names = List::new(alloc);
+    names.push(Text::of(alloc, "istio")?)?;
+    names.push(Text::of(alloc, "istio-peer-exchange")?)?;
+    names.push(Text::of(alloc, "istio-http/1.0")?)?;
+    names.push(Text::of(alloc, "istio-http/1.1")?)?;
+    names.push(Text::of(alloc, "istio-h2")?)?;
+    Ok(names)
+}
+
+// A chain to the cluster of connections that go on as they came.
+fn chain(
+    alloc: Global,
+    name: &str,
+    matching: ChainMatch,
+    mutual_tls: bool,
+    filters: List<NetworkFilter>,
+) -> Result<FilterChain, Memory>
+    ensures { IfOk result (λ c. c ≡ meaning.chain_of name.now matching mutual_tls filters) }
+{
+    Ok(FilterChain {
+        name: Text::of(alloc, name)?,
+        matching,
+        mutual_tls,
+        body: ChainBody::Tcp {
+            filters,
+            cluster: Text::of(alloc, "InboundPassthroughCluster")?,
+        },
+    })
+}

@@ -1,0 +1,152 @@
+// Builds the filter of the policies that apply to a Pod.
+ghost use Rattle.std.specs.Prelude.{◌≡◌, ◌≤◌, ◌+◌, ◌<◌, ◌^◌, ◌++◌, length, map, filter, IfOk, OnOk, IsTrue, if◌then◌else◌, [], ◌∷◌};
+ghost use Rattle.std.specs.List.{list_any};
+ghost use Rattle.envoy_types.specs.declared.rbac.PermissionLeaf.TheVariants.{DestinationPort};
+ghost use Rattle.mesh_policy.specs.Applies as apply;
+ghost use Rattle.mesh_cli.specs.Built as meaning;
+
+use envoy_types::{
+    NetworkFilter, PermissionLeaf, Principal, Rbac, RbacAction, RbacPolicy, RbacRules,
+};
+use mesh_policy::{AuthorizationPolicy, Bundle, OperationSpec, Pod, Rule, applies};
+use mesh_text::{List, Memory, Text};
+use std::alloc::Global;
+
+/// The filters of each chain: that of the ALLOW policies, where one applies.
+pub fn filters(alloc: Global, bundle: &Bundle, pod: &Pod) -> Result<List<NetworkFilter>, Memory>
+    requires { IsTrue (meaning.is_buildable bundle.now) }
+    ensures { IfOk result (λ fs. fs ≡ meaning.filters_of bundle.now pod.now) }
+{
+    let policies = bundle.authorization.as_slice();
+    if some_applies(policies, pod) {
+        sole_filter(alloc, policies, pod)
+    } else {
+        Ok(List::new(alloc))
+    }
+}
+
+fn some_applies(policies: &[AuthorizationPolicy], pod: &Pod) -> bool
+    ensures { result ≡ list_any (apply.applies pod.now) policies.now }
+{
+    policies.iter().any(|policy| applies(pod, policy))
+}
+
+fn sole_filter(
+    alloc: Global,
+    policies: &[AuthorizationPolicy],
+    pod: &Pod,
+) -> Result<List<NetworkFilter>, Memory>
+    requires { IsTrue (meaning.are_buildable policies.now) }
+    ensures { IfOk result (λ fs. fs ≡ meaning.allow_filter (filter (apply.applies pod.now) policies.now) ∷ []) }
+{
+    let mut filters = List::new(alloc);
+    filters.push(allow_filter(alloc, policies, pod)?)?;
+    Ok(filters)
+}
+
+fn allow_filter(
+    alloc: Global,
+    policies: &[AuthorizationPolicy],
+    pod: &Pod,
+) -> Result<NetworkFilter, Memory>
+    requires { IsTrue (meaning.are_buildable policies.now) }
+    ensures { IfOk result (λ f. f ≡ meaning.allow_filter (filter (apply.applies pod.now) policies.now)) }
+{
+    let policies = policies_of(alloc, policies, pod)?;
+    let rules = RbacRules {
+        action: RbacAction::Allow,
+        policies,
+    };
+    Ok(NetworkFilter::Rbac(Rbac { rules: Some(rules) }))
+}
+
+// One policy for each rule of the policies that apply.
+fn policies_of(
+    alloc: Global,
+    policies: &[AuthorizationPolicy],
+    pod: &Pod,
+) -> Result<List<RbacPolicy>, Memory>
+    ensures { IfOk result (λ ps. ps ≡ meaning.policies_of (filter (apply.applies pod.now) policies.now)) }
+{
+    let mut found = List::new(alloc);
+    for policy in policies {
+        push_if_applies(alloc, &mut found, pod, policy)?;
+    }
+    Ok(found)
+}
+
+fn push_if_applies(
+    alloc: Global,
+    found: &mut List<RbacPolicy>,
+    pod: &Pod,
+    policy: &AuthorizationPolicy,
+) -> Result<(), Memory>
+    ensures { OnOk result (found.new ≡ found.old ++ (if apply.applies pod.now policy.now then meaning.rule_policies policy.now 0 policy.now.rules else [])) }
+{
+    if applies(pod, policy) {
+        push_rules(alloc, found, policy)
+    } else {
+        Ok(())
+    }
+}
+
+fn push_rules(
+    alloc: Global,
+    found: &mut List<RbacPolicy>,
+    policy: &AuthorizationPolicy,
+) -> Result<(), Memory>
+    ensures { OnOk result (found.new ≡ found.old ++ meaning.rule_policies policy.now 0 policy.now.rules) }
+{
+    for (index, rule) in policy.rules.as_slice().iter().enumerate() {
+        found.push(rule_policy(alloc, policy, index, rule)?)?;
+    }
+    Ok(())
+}
+
+fn rule_policy(
+    alloc: Global,
+    policy: &AuthorizationPolicy,
+    index: usize,
+    rule: &Rule,
+) -> Result<RbacPolicy, Memory>
+    ensures { IfOk result (λ p. p ≡ meaning.rule_policy policy.now index rule.now) }
+{
+    let name = rule_name(alloc, policy, index)?;
+    let permissions = permissions(alloc, rule)?;
+    let mut principals = List::new(alloc);
+    principals.push(Principal::Any)?;
+    Ok(RbacPolicy {
+        name,
+        permissions,
+        principals,
+    })
+}
+
+fn rule_name(alloc: Global, policy: &AuthorizationPolicy, index: usize) -> Result<Text, Memory>
+    ensures { IfOk result (λ n. n ≡ meaning.rule_name policy.now index) }
+{
+    let namespace = policy.namespace.as_str();
+    let name = policy.name.as_str();
+    let text = format!(in alloc; "ns[{namespace}]-policy[{name}]-rule[{index}]")?;
+    Ok(Text::from_string(text))
+}
+
+// One permission for each port of the operations.
+fn permissions(alloc: Global, rule: &Rule) -> Result<List<PermissionLeaf>, Memory>
+    ensures { IfOk result (λ ps. ps ≡ meaning.permissions_of rule.now.operations) }
+{
+    let mut permissions = List::new(alloc);
+    for operation in rule.operations.as_slice() {
+        push_ports(&mut permissions, operation)?;
+    }
+    Ok(permissions)
+}
+
+fn push_ports(permissions: &mut List<PermissionLeaf>, operation: &OperationSpec) -> Result<(), Memory>
+    ensures { OnOk result (permissions.new ≡ permissions.old ++ map DestinationPort operation.now.ports) }
+{
+    for port in operation.ports.as_slice() {
+        permissions.push(PermissionLeaf::DestinationPort(*port))?;
+    }
+    Ok(())
+}

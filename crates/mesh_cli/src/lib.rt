@@ -1,0 +1,12 @@
+//! The commands of `mesh`: from the words and the input to what is written, with each status and its cause.
+#![tactic(auto)]
+
+mod build;
+mod build_rules;
+mod document;
+mod document_policy;
+mod fields;
+mod refusal;
+mod words;
+
+pub use refusal::Status;

@@ -39,13 +39,16 @@ listener_filters = array (items_of (named original_dst_name (typed original_dst_
 abbrev pub secret : List ℕ → Data
 secret name = object (fields ((codes "name", string name) ∷ []))
 
+abbrev pub tls_secrets : Data
+tls_secrets = object (fields (
+    (codes "tls_certificate_sds_secret_configs", array (items_of (secret (codes "default") ∷ [])))
+  ∷ (codes "validation_context_sds_secret_config", secret (codes "ROOTCA"))
+  ∷ []))
+
 abbrev pub tls_socket : Data
 tls_socket = named tls_socket_name (object (fields (
     (codes "@type", string tls_socket_type)
-  ∷ (codes "common_tls_context", object (fields (
-        (codes "tls_certificate_sds_secret_configs", array (items_of (secret (codes "default") ∷ [])))
-      ∷ (codes "validation_context_sds_secret_config", secret (codes "ROOTCA"))
-      ∷ [])))
+  ∷ (codes "common_tls_context", tls_secrets)
   ∷ (codes "require_client_certificate", boolean true)
   ∷ [])))
 
@@ -61,10 +64,13 @@ policy p = object (fields (
   ∷ (codes "principals", array (items_of (map principal p.principals)))
   ∷ []))
 
--- the policies by their names
+-- these members, and the policies by their names
+abbrev pub policies_onto : Members → List RbacPolicy → Members
+policies_onto ms [] = ms
+policies_onto ms (p ∷ ps) = put p.name (policy p) (policies_onto ms ps)
+
 abbrev pub policies : List RbacPolicy → Members
-policies [] = no_members
-policies (p ∷ ps) = put p.name (policy p) (policies ps)
+policies ps = policies_onto no_members ps
 
 abbrev pub action : RbacAction → List ℕ
 action Allow = codes "ALLOW"
@@ -123,9 +129,12 @@ chain c = object (with_socket c.mutual_tls (fields (
   ∷ (codes "name", string c.name)
   ∷ [])))
 
+abbrev pub socket_address : List ℕ → ℕ → Data
+socket_address address port = object (fields ((codes "socket_address", object (fields ((codes "address", string address) ∷ (codes "port_value", number (unsigned port)) ∷ []))) ∷ []))
+
 abbrev pub written : Listener → Data
 written l = object (fields (
-    (codes "address", object (fields ((codes "socket_address", object (fields ((codes "address", string l.address) ∷ (codes "port_value", number (unsigned l.port)) ∷ []))) ∷ [])))
+    (codes "address", socket_address l.address l.port)
   ∷ (codes "filter_chains", array (items_of (map chain l.chains)))
   ∷ (codes "listener_filters", listener_filters)
   ∷ (codes "name", string l.name)

@@ -1,3 +1,4 @@
 mod Booleans
 mod NamesRise
+pub mod Policies
 mod Verdict

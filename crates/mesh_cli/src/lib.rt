@@ -6,6 +6,8 @@ mod build_rules;
 mod document;
 mod document_policy;
 mod fields;
+mod print;
+mod print_filters;
 mod refusal;
 mod words;
 

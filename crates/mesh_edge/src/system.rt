@@ -18,6 +18,7 @@ pub struct StdSource<R> {
 impl<R> StdSource<R> {
     ghost use Rattle.mesh_edge.specs.System.{read_faults_of, reader_of};
 
+    /// A source of what is left in `reader`, with no fault yet.
     pub fn new(reader: R) -> StdSource<R>
         ensures reader { reader_of result ≡ reader }
         ensures faults { read_faults_of result ≡ 0 }
@@ -37,7 +38,8 @@ impl<R: Read> Source for StdSource<R> {
 
     fn read(&mut self, buf: &mut [u8]) -> Result<usize, Failed>
         ensures bound { ReadsAtMost result buf.new }
-        ensures bytes { ReadConsumes (R.remaining (reader_of self.old)) (R.remaining (reader_of self.new)) result buf.new }
+        ensures bytes { ReadConsumes (R.remaining (reader_of self.old)) (R.remaining (reader_of self.new))
+            result buf.new }
         ensures cause { HasCause (read_faults_of self.old) (read_faults_of self.new) result }
         ensures turn { 0 ≤ 0 + 1 }
         ensures read { OnOk result (read_faults_of self.new ≡ read_faults_of self.old) }
@@ -62,6 +64,7 @@ pub struct StdSink<W> {
 impl<W> StdSink<W> {
     ghost use Rattle.mesh_edge.specs.System.{write_faults_of, writer_of};
 
+    /// A sink into `writer`, with no fault yet.
     pub fn new(writer: W) -> StdSink<W>
         ensures writer { writer_of result ≡ writer }
         ensures faults { write_faults_of result ≡ 0 }
@@ -83,7 +86,8 @@ impl<W: Write> Sink for StdSink<W> {
 
     fn write(&mut self, piece: &[u8]) -> Result<usize, Failed>
         ensures bound { IfOk result (λ n. (0 < n) × (n ≤ length piece.now)) }
-        ensures bytes { WriteAppends (W.contents (writer_of self.old)) (W.contents (writer_of self.new)) result piece.now }
+        ensures bytes { WriteAppends (W.contents (writer_of self.old)) (W.contents (writer_of self.new))
+            result piece.now }
         ensures flushed { NoFewer None None }
         ensures cause { HasCause (write_faults_of self.old) (write_faults_of self.new) result }
         ensures turn { 0 ≤ 0 + 1 }

@@ -1,19 +1,29 @@
 use super::*;
 use std::alloc::{AllocError, Global};
 use std::io;
-use std::io::{ErrorKind, Read};
+use std::io::{ErrorKind, Read, Write};
 use std::test::Fail;
 
 const NONE: u64 = u64::MAX;
 
 const GIVEN: [u8; 10] = [0, 1, 2, 3, 4, 5, 6, 7, 8, 9];
 
-// A reader of std that fails.
+// A reader of std that fails, and a writer whose flush fails.
 #[derive(Drop)]
 struct Broken;
 
 impl Read for Broken {
     fn read(&mut self, _buf: &mut [u8]) -> io::Result<usize> {
+        Err(io::Error::from(ErrorKind::BrokenPipe))
+    }
+}
+
+impl Write for Broken {
+    fn write(&mut self, buf: &[u8]) -> io::Result<usize> {
+        Ok(buf.len())
+    }
+
+    fn flush(&mut self) -> io::Result<()> {
         Err(io::Error::from(ErrorKind::BrokenPipe))
     }
 }
@@ -132,6 +142,7 @@ fn writing_others(rt: HostRuntime) -> Result<(), Fail> {
     let mut kept = Vec::new(rt.alloc());
     assert_eq!(rt; write_text(&mut StdSink::new(&mut kept)), Ok(()));
     assert_eq!(rt; kept.as_slice(), b"12345".as_slice());
+    assert_eq!(rt; StdSink::new(Broken).flush(), Err(Failed));
     // A writer that is full takes nothing of a piece.
     let mut three = [0; 3];
     assert_eq!(rt;

@@ -28,6 +28,7 @@ impl Model for CleanSource {
 }
 
 impl CleanSource {
+    /// A source of these bytes.
     pub fn new(bytes: Vec<u8>) -> CleanSource
         ensures { result ≡ bytes.items }
     {
@@ -65,6 +66,7 @@ impl Source for CleanSource {
 pub struct CleanSink;
 
 impl CleanSink {
+    /// A sink that has taken nothing.
     pub fn new() -> CleanSink {
         CleanSink
     }

@@ -23,3 +23,6 @@ pub use sink::Sink;
 pub use source::Source;
 pub use system::{StdSink, StdSource};
 pub use transfer::{read_all, write_all};
+
+#[cfg(test)]
+mod tests;

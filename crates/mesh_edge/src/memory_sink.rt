@@ -28,10 +28,22 @@ impl Model for MemorySink {
 
     ghost Value = { SinkState };
 
-    ghost view = { λ s. record { taken = s.bytes.items; flushed = s.flushed; room = s.room; fails = s.fails.items; most = s.most; flush_fails = s.flush_fails; number = s.number; faults = s.faults } };
+    ghost view = { λ s. record {
+      taken = s.bytes.items;
+      flushed = s.flushed;
+      room = s.room;
+      fails = s.fails.items;
+      most = s.most;
+      flush_fails = s.flush_fails;
+      number = s.number;
+      faults = s.faults;
+    } };
 
     // Its room is there from the start, so a write takes no memory.
-    ghost invariant = { λ s. (s.flushed ≤ length s.bytes.items) × (length s.bytes.items ≤ s.room) × (s.room ≤ vec_capacity s.bytes) × (1 ≤ s.most) };
+    ghost invariant = { λ s. (s.flushed ≤ length s.bytes.items)
+        × (length s.bytes.items ≤ s.room)
+        × (s.room ≤ vec_capacity s.bytes)
+        × (1 ≤ s.most) };
 }
 
 impl MemorySink {
@@ -46,7 +58,16 @@ impl MemorySink {
         flush_fails: bool,
     ) -> Result<MemorySink, AllocError>
         requires { 1 ≤ most }
-        ensures { IfOk result (λ sink. sink ≡ record { taken = []; flushed = 0; room = room; fails = fails.items; most = most; flush_fails = flush_fails; number = 0; faults = 0 }) }
+        ensures { IfOk result (λ sink. sink ≡ record {
+          taken = [];
+          flushed = 0;
+          room = room;
+          fails = fails.items;
+          most = most;
+          flush_fails = flush_fails;
+          number = 0;
+          faults = 0;
+        }) }
     {
         Ok(MemorySink {
             bytes: Vec::with_capacity(alloc, room)?,

@@ -26,7 +26,13 @@ impl Model for MemorySource {
 
     ghost Value = { SourceState };
 
-    ghost view = { λ s. record { left = drop s.at s.bytes.items; fails = s.fails.items; most = s.most; number = s.number; faults = s.faults } };
+    ghost view = { λ s. record {
+      left = drop s.at s.bytes.items;
+      fails = s.fails.items;
+      most = s.most;
+      number = s.number;
+      faults = s.faults;
+    } };
 
     ghost invariant = { λ s. (s.at ≤ length s.bytes.items) × (1 ≤ s.most) };
 }
@@ -36,7 +42,13 @@ impl MemorySource {
     /// 2^64 - 1. A read moves `most` bytes at most.
     pub fn new(bytes: Vec<u8>, fails: Vec<u64>, most: usize) -> MemorySource
         requires { 1 ≤ most }
-        ensures { result ≡ record { left = bytes.items; fails = fails.items; most = most; number = 0; faults = 0 } }
+        ensures { result ≡ record {
+          left = bytes.items;
+          fails = fails.items;
+          most = most;
+          number = 0;
+          faults = 0;
+        } }
     {
         MemorySource {
             bytes,

@@ -14,11 +14,13 @@ const CHUNK: usize = 65536;
 /// It asks for no more than `limit` + 1 bytes in all, and its time grows with the bytes read.
 pub fn read_all<S: Source>(alloc: Global, src: &mut S, limit: usize) -> Result<Vec<u8>, ReadError>
     requires { limit < 2 ^ 32 }
-    ensures bytes { IfOk result (λ v. Consumes (S.left src.old) (S.left src.new) v.items × IsAtEnd (S.left src.new)) }
+    ensures bytes { IfOk result (λ v. Consumes (S.left src.old) (S.left src.new) v.items
+        × IsAtEnd (S.left src.new)) }
     ensures short { IfOk result (λ v. length v.items ≤ limit) }
     ensures fault { result ≡ Err ReadError.Fault → Rose (S.faults src.old) (S.faults src.new) }
     ensures later { S.faults src.old ≤ S.faults src.new }
-    ensures too_long { result ≡ Err ReadError.TooLong → TakesCount (S.left src.old) (S.left src.new) (limit + 1) }
+    ensures too_long { result ≡ Err ReadError.TooLong →
+        TakesCount (S.left src.old) (S.left src.new) (limit + 1) }
 
     // No byte is lost or taken twice, whatever is answered.
     ensures prefix { TakesSome (S.left src.old) (S.left src.new) }

@@ -45,12 +45,15 @@ tls_secrets = object (fields (
   ∷ (codes "validation_context_sds_secret_config", secret (codes "ROOTCA"))
   ∷ []))
 
-abbrev pub tls_socket : Data
-tls_socket = named tls_socket_name (object (fields (
+abbrev pub tls_context : Data
+tls_context = object (fields (
     (codes "@type", string tls_socket_type)
   ∷ (codes "common_tls_context", tls_secrets)
   ∷ (codes "require_client_certificate", boolean true)
-  ∷ [])))
+  ∷ []))
+
+abbrev pub tls_socket : Data
+tls_socket = named tls_socket_name tls_context
 
 abbrev pub permission : PermissionLeaf → Data
 permission (DestinationPort port) = object (fields ((codes "destination_port", number (unsigned port)) ∷ []))

@@ -1,4 +1,5 @@
 mod Booleans
 mod NamesRise
-pub mod Policies
+mod Policies
+mod Spelled
 mod Verdict

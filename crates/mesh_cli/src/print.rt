@@ -14,17 +14,18 @@ use std::alloc::Global;
 pub fn listener_value(alloc: Global, listener: &Listener) -> Result<Value, Memory>
     ensures { IfOk result (λ v. view v ≡ form.written listener.now) }
 {
+    let address = address_value(alloc, listener.address.as_str(), listener.port)?;
     let chains = chain_values(alloc, listener.chains.as_slice())?;
     let filters = listener_filters(alloc)?;
-    let address = address_value(alloc, listener.address.as_str(), listener.port)?;
-    let name = listener.name.as_str();
-    Ok(json!(in alloc; {
-        "address": address,
-        "filter_chains": chains,
-        "listener_filters": filters,
-        "name": name,
-        "traffic_direction": "INBOUND"
-    })?)
+    let name = text_value(alloc, &listener.name)?;
+    let direction = json!(in alloc; "INBOUND")?;
+    let mut fields = Map::new(alloc);
+    serde_json::put(&mut fields, alloc, "address", address)?;
+    serde_json::put(&mut fields, alloc, "filter_chains", chains)?;
+    serde_json::put(&mut fields, alloc, "listener_filters", filters)?;
+    serde_json::put(&mut fields, alloc, "name", name)?;
+    serde_json::put(&mut fields, alloc, "traffic_direction", direction)?;
+    Ok(Value::Object(fields))
 }
 
 fn address_value(alloc: Global, address: &str, port: u16) -> Result<Value, Memory>
@@ -98,15 +99,20 @@ fn put_socket(alloc: Global, fields: &mut Map<String, Value>, mutual_tls: bool) 
 fn tls_socket(alloc: Global) -> Result<Value, Memory>
     ensures { IfOk result (λ v. view v ≡ form.tls_socket) }
 {
+    let config = tls_context(alloc)?;
+    Ok(json!(in alloc; {"name": "envoy.transport_sockets.tls", "typed_config": config})?)
+}
+
+fn tls_context(alloc: Global) -> Result<Value, Memory>
+    ensures { IfOk result (λ v. view v ≡ form.tls_context) }
+{
+    let type_name = json!(in alloc; "type.googleapis.com/envoy.extensions.transport_sockets.tls.v3.DownstreamTlsContext")?;
     let secrets = tls_secrets(alloc)?;
-    Ok(json!(in alloc; {
-        "name": "envoy.transport_sockets.tls",
-        "typed_config": {
-            "@type": "type.googleapis.com/envoy.extensions.transport_sockets.tls.v3.DownstreamTlsContext",
-            "common_tls_context": secrets,
-            "require_client_certificate": true
-        }
-    })?)
+    let mut fields = Map::new(alloc);
+    serde_json::put(&mut fields, alloc, "@type", type_name)?;
+    serde_json::put(&mut fields, alloc, "common_tls_context", secrets)?;
+    serde_json::put(&mut fields, alloc, "require_client_certificate", Value::Bool(true))?;
+    Ok(Value::Object(fields))
 }
 
 fn tls_secrets(alloc: Global) -> Result<Value, Memory>

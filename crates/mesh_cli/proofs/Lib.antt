@@ -1,5 +1,7 @@
 mod Booleans
+mod Buildable
 mod NamesRise
 mod Policies
+mod Shallow
 mod Spelled
 mod Verdict

@@ -15,7 +15,7 @@ use Rattle.mesh_policy.specs.declared.policy.OperationSpec.{OperationSpec}
 use Rattle.mesh_policy.specs.declared.policy.Rule.{Rule}
 use Rattle.mesh_policy.specs.Applies.{applies}
 use Rattle.envoy_types.specs.declared.listener.NetworkFilter.{NetworkFilter}
-use Rattle.envoy_types.specs.declared.listener.NetworkFilter.TheVariants as filter
+use Rattle.envoy_types.specs.declared.listener.NetworkFilter.TheVariants as network
 use Rattle.envoy_types.specs.declared.rbac.Principal.TheVariants.{Any}
 use Rattle.envoy_types.specs.declared.rbac.RbacAction.TheVariants.{Allow}
 use Rattle.envoy_types.specs.declared.rbac.RbacPolicy.{RbacPolicy}
@@ -23,13 +23,13 @@ use Rattle.envoy_types.specs.Rules.{names_rise, is_below}
 use Rattle.envoy_types.specs.Spells.{policy_in, named_policies, policies_in, listener_in}
 use Rattle.envoy_types.specs.Written as form
 use Rattle.envoy_types.specs.Written.{written}
-use Rattle.mesh_cli.specs.Built.{is_buildable, are_buildable, has_few_rules, has_one_operation, has_one_port, is_sole, permissions_of, rule_policy, rule_policies, policies_of, allow_filter, listener_with, built}
+use Rattle.mesh_cli.specs.Built.{is_buildable, are_buildable, has_few_rules, has_one_operation, has_one_port, is_sole, permissions_of, rule_name, rule_policies, policies_of, allow_filter, listener_with, built}
 use Rattle.mesh_cli.proofs.Booleans.{left_of, right_of}
 use Rattle.mesh_cli.proofs.NamesRise.{policies-rise}
 
 -- ---- policies whose names rise stand in the object as they do in the list
 
-abbrev direct : List RbacPolicy → Members
+abbrev pub direct : List RbacPolicy → Members
 direct [] = no_members
 direct (policy ∷ policies) = member policy.name (form.policy policy) (direct policies)
 
@@ -42,7 +42,7 @@ put-first : (name : List ℕ) (value : Data) (policies : List RbacPolicy) → li
 put-first name value [] h = refl
 put-first name value (policy ∷ policies) h = less-by (slice_cmp nat_cmp name policy.name) _ _ _ (left_of _ _ h)
 
-in-order : (policies : List RbacPolicy) → names_rise policies ≡ true → form.policies policies ≡ direct policies
+pub in-order : (policies : List RbacPolicy) → names_rise policies ≡ true → form.policies policies ≡ direct policies
 in-order [] h = refl
 in-order (policy ∷ policies) h =
     ap (put policy.name (form.policy policy)) (in-order policies (right_of _ _ h))
@@ -63,3 +63,49 @@ rule-back : (name : List ℕ) (operations : List OperationSpec) → is_sole has_
 rule-back name [] h = cc
 rule-back name (operation ∷ []) h = port-back name operation.ports h
 rule-back name (operation ∷ (other ∷ operations)) h = cc
+
+rules-back : (policy : AuthorizationPolicy) (k : ℕ) (rules : List Rule) → list_all has_one_operation rules ≡ true
+    → named_policies (direct (rule_policies policy k rules)) ≡ Some (rule_policies policy k rules)
+rules-back policy k [] h = refl
+rules-back policy k (rule ∷ rules) h =
+    let sole : is_sole has_one_port rule.operations ≡ true = left_of _ _ h in
+    let others : list_all has_one_operation rules ≡ true = right_of _ _ h in
+    rw (rule-back (rule_name policy k) rule.operations sole, rules-back policy (k + 1) rules others) refl
+
+one-back : (policy : AuthorizationPolicy) (chosen : Bool) → has_few_rules policy ≡ true
+    → named_policies (direct (policies_of (cond chosen (policy ∷ []) []))) ≡ Some (policies_of (cond chosen (policy ∷ []) []))
+one-back policy false h = refl
+one-back policy true h =
+    ap (λ policies. named_policies (direct policies)) (append-nil (rule_policies policy 0 policy.rules))
+    ∙ rules-back policy 0 policy.rules (right_of _ _ h)
+    ∙ ap (λ policies. Some policies) (sym (append-nil (rule_policies policy 0 policy.rules)))
+
+policies-back : (pod : Pod) (policies : List AuthorizationPolicy) → are_buildable policies ≡ true
+    → named_policies (direct (policies_of (filter (applies pod) policies))) ≡ Some (policies_of (filter (applies pod) policies))
+policies-back pod [] h = refl
+policies-back pod (policy ∷ []) h = one-back policy (applies pod policy) h
+policies-back pod (policy ∷ (other ∷ policies)) h = cc
+
+object-back : (policies : List RbacPolicy) → names_rise policies ≡ true → named_policies (direct policies) ≡ Some policies
+    → policies_in (object (form.policies policies)) ≡ Some policies
+object-back policies rise back = ap (λ ms. policies_in (object ms)) (in-order policies rise) ∙ rw (back, rise) refl
+
+-- ---- the listener
+
+with-filter : (policies : List RbacPolicy) → policies_in (object (form.policies policies)) ≡ Some policies
+    → listener_in (written (listener_with (network.Rbac (record { rules = Some (record { action = Allow; policies = policies }) }) ∷ [])))
+      ≡ Some (listener_with (network.Rbac (record { rules = Some (record { action = Allow; policies = policies }) }) ∷ []))
+with-filter policies back = rw back refl
+
+without-filter : listener_in (written (listener_with [])) ≡ Some (listener_with [])
+without-filter = refl
+
+pub spelled : (bundle : Bundle) (pod : Pod) → is_buildable bundle ≡ true → listener_in (written (built bundle pod)) ≡ Some (built bundle pod)
+unfolding built
+spelled bundle pod h = at (list_any (applies pod) bundle.authorization) where
+  back : policies_in (object (form.policies (policies_of (filter (applies pod) bundle.authorization)))) ≡ Some (policies_of (filter (applies pod) bundle.authorization))
+  back = object-back _ (policies-rise pod bundle.authorization h) (policies-back pod bundle.authorization h)
+  at : (some_applies : Bool) → let filters = cond some_applies (allow_filter (filter (applies pod) bundle.authorization) ∷ []) [] in
+      listener_in (written (listener_with filters)) ≡ Some (listener_with filters)
+  at true = with-filter (policies_of (filter (applies pod) bundle.authorization)) back
+  at false = without-filter

@@ -26,7 +26,7 @@ pub data Answer : Type 0 where
 -- ---- the input
 
 -- the value that the bytes are as JSON (RFC 8259): those of a UTF-8 text that `serde_json` reads
-abbrev pub document_of : List ℕ → Option Data
+unfoldable pub document_of : List ℕ → Option Data
 document_of bytes = if is_utf8 bytes then read bytes else None
 
 abbrev pub is_named : PodName → Pod → Bool
@@ -38,7 +38,7 @@ pod_named name bundle = find (is_named name) bundle.pods
 -- ---- the answer
 
 -- the text of the Pod's listener, without the newline
-abbrev pub listener_text : Bundle → Pod → List ℕ
+unfoldable pub listener_text : Bundle → Pod → List ℕ
 listener_text bundle pod = compact_text (written (built bundle pod))
 
 abbrev pub answer_for : Bundle → Option Pod → Answer
@@ -54,7 +54,7 @@ answer_to name None = refuses NotJson
 answer_to name (Some document) = answer_from name (bundle_of document)
 
 -- the first refusal that holds, in this order, or the text
-abbrev pub answer_of : PodName → List ℕ → Answer
+unfoldable pub answer_of : PodName → List ℕ → Answer
 answer_of name bytes = if nat_lt max_input (length bytes) then refuses TooLong else answer_to name (document_of bytes)
 
 -- ---- lines of the notes

@@ -3,3 +3,4 @@ pub mod Built
 pub mod Command
 pub mod Document
 pub mod Gives
+pub mod Headline

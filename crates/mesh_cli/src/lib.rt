@@ -9,6 +9,7 @@ mod fields;
 mod print;
 mod print_filters;
 mod refusal;
+mod text;
 mod words;
 
 pub use refusal::Status;

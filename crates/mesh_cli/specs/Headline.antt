@@ -1,0 +1,32 @@
+-- What it means that a text enforces the policies of a Pod, and that an input was served.
+use Rattle.std.specs.Prelude.{◌≡◌, ℕ, ◌≤◌, List, length, Option, Some, None, Result, Ok, Err}
+use Rattle.serde_json.specs.Data.{Data}
+use Rattle.mesh_policy.specs.declared.bundle.Bundle.{Bundle}
+use Rattle.mesh_policy.specs.declared.bundle.Pod.{Pod}
+use Rattle.mesh_policy.specs.declared.case.Case.{Case}
+use Rattle.mesh_policy.specs.MeshVerdict.{mesh_verdict}
+use Rattle.envoy_types.specs.declared.listener.Listener.{Listener}
+use Rattle.envoy_types.specs.EnvoyVerdict.{envoy_verdict}
+use Rattle.envoy_types.specs.Spells.{Spells}
+use Rattle.mesh_cli.specs.Answer.{document_of, pod_named}
+use Rattle.mesh_cli.specs.Command.{PodName}
+use Rattle.mesh_cli.specs.Document.{bundle_of}
+
+-- The text is JSON, its value spells one listener and no other, and that listener gives every connection
+-- the verdict of the policies: the outcome and the audit mark.
+pub record Enforces (bundle : Bundle) (pod : Pod) (text : List ℕ) : Type 0 where
+  pub value : Data
+  pub reads : document_of text ≡ Some value
+  pub listener : Listener
+  pub spells : Spells value listener
+  pub only : (other : Listener) → Spells value other → other ≡ listener
+  pub verdicts : (case : Case) → envoy_verdict listener case ≡ mesh_verdict bundle pod case
+
+-- The input spells manifests, and one of their Pods has that name.
+pub record Accepted (name : PodName) (bytes : List ℕ) : Type 0 where
+  pub document : Data
+  pub reads : document_of bytes ≡ Some document
+  pub bundle : Bundle
+  pub manifests : bundle_of document ≡ Ok bundle
+  pub pod : Pod
+  pub selected : pod_named name bundle ≡ Some pod

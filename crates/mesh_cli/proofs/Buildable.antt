@@ -15,7 +15,7 @@ use Rattle.mesh_cli.specs.declared.refusal.Spot.{Spot}
 use Rattle.mesh_cli.specs.declared.refusal.Spot.TheVariants.{Document}
 use Rattle.mesh_cli.specs.Built.{is_buildable, has_few_rules, has_one_operation, has_one_port, is_sole}
 use Rattle.mesh_cli.specs.Document.{bundle_of, bundle_of_items, with_policy, without_policy, pod_in, policy_in, policy_of, name_in, namespace_in, spec_in, rules_or_none, rules_of, rule_in, operation_in, operation_of, port_in, sole_of}
-use Rattle.mesh_cli.proofs.Booleans.{both, left_of, right_of}
+use Rattle.mesh_cli.proofs.Booleans.{both, left_of, right_of, some-same}
 
 -- ---- what a reading that gave a value went through
 
@@ -36,9 +36,6 @@ decimal-fits digits n port h = at (digits && nat_le n 65535) refl h where
   at : (b : Bool) → (digits && nat_le n 65535) ≡ b → cond b (Some n) None ≡ Some port → nat_le port 65535 ≡ true
   at true e same = let P : ℕ → Type 0 = λ m. nat_le m 65535 ≡ true in let is : n ≡ port = cc in subst P is (right_of _ _ e)
   at false e same = cc
-
-some-same : {A : Type 0} (x y : A) → Some x ≡ Some y → x ≡ y
-some-same x y h = cc
 
 port-fits : (d : Data) (port : ℕ) → port_in d ≡ Some port → nat_le port 65535 ≡ true
 port-fits d port h = through (λ p. nat_le p 65535 ≡ true) (as_str d >>= decimal_of) _ port h

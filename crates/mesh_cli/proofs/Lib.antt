@@ -1,7 +1,9 @@
 mod Booleans
 mod Buildable
+mod Enforced
 mod NamesRise
 mod Policies
+mod Readings
 mod Shallow
 mod Spelled
 mod Verdict

@@ -11,6 +11,8 @@ use Rattle.mesh_cli.specs.declared.refusal.Spot.{Spot}
 use Rattle.mesh_cli.specs.declared.refusal.Spot.TheVariants.{Document, FirstItem, SecondItem}
 use Rattle.mesh_cli.specs.declared.refusal.Refusal.{Refusal}
 use Rattle.mesh_cli.specs.declared.refusal.Refusal.TheVariants.{TooLong, NotJson, NotYet, NoWorkload}
+use Rattle.mesh_cli.specs.declared.refusal.Stop.{Stop}
+use Rattle.mesh_cli.specs.declared.refusal.Stop.TheVariants as stop
 use Rattle.mesh_cli.specs.Built.{built}
 use Rattle.mesh_cli.specs.Command.{PodName}
 use Rattle.mesh_cli.specs.Document.{bundle_of}
@@ -78,3 +80,16 @@ newline = 10 ∷ []
 
 abbrev pub refusal_line : PodName → Refusal → List ℕ
 refusal_line name why = codes "refused: " ++ place_of name why ++ codes ": " ++ reason_of why ++ newline
+
+-- why there is no text
+abbrev pub Stops : Stop → Answer → Type 0
+Stops (stop.Refused why) answer = answer ≡ refuses why
+Stops stop.Memory answer = Unit {0}
+
+abbrev pub StopsReading : Stop → Option Data → Type 0
+StopsReading (stop.Refused why) reading = (why ≡ NotJson) × (reading ≡ None)
+StopsReading stop.Memory reading = Unit {0}
+
+abbrev pub StopsManifests : Stop → Result Bundle Spot → Type 0
+StopsManifests (stop.Refused why) reading = (spot : Spot) × (why ≡ NotYet spot) × (reading ≡ Err spot)
+StopsManifests stop.Memory reading = Unit {0}

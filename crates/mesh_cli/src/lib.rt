@@ -1,6 +1,7 @@
 //! The commands of `mesh`: from the words and the input to what is written, with each status and its cause.
 #![tactic(auto)]
 
+mod answer;
 mod build;
 mod build_rules;
 mod document;

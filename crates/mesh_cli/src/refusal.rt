@@ -41,7 +41,6 @@ pub enum Refusal {
 /// Why there is no text.
 #[derive(Clone, Copy, Debug, PartialEq, Eq)]
 pub enum Stop {
-    ReadFault,
     Refused(Refusal),
     Memory,
 }

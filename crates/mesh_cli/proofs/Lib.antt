@@ -1,6 +1,7 @@
 mod Booleans
 mod Buildable
 mod Enforced
+mod Fronts
 mod NamesRise
 mod Policies
 mod Readings

@@ -7,10 +7,14 @@ mod build_rules;
 mod document;
 mod document_policy;
 mod fields;
+mod notes;
+mod pieces;
 mod print;
 mod print_filters;
+mod program;
 mod refusal;
 mod text;
 mod words;
 
+pub use program::run;
 pub use refusal::Status;

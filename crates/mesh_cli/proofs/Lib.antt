@@ -2,7 +2,9 @@ mod Booleans
 mod Buildable
 mod Enforced
 mod Fronts
+mod Inputs
 mod NamesRise
+mod Served
 mod Policies
 mod Readings
 mod Shallow

@@ -32,6 +32,37 @@ pub fn run<I: Source, O: Sink, E: Sink>(
     notes: &mut E,
 ) -> Status
     ensures words { (result ≡ Status.Words) ↔ (command_of (map string_bytes words.now.items) ≡ None) }
+
+    // What each status tells.
+    ensures usage { result ≡ Status.Words → IsUsage (I.left input.old) (I.left input.new)
+        (O.taken output.old) (O.taken output.new)
+        (E.faults notes.old) (E.faults notes.new) (E.taken notes.old) (E.taken notes.new) }
+    ensures done { result ≡ Status.Done → IsDone (map string_bytes words.now.items)
+        (I.left input.old) (I.left input.new)
+        (O.taken output.old) (O.taken output.new) (O.flushed output.new) }
+    ensures silent { result ≡ Status.Done → Keeps (E.taken notes.old) (E.taken notes.new) }
+    ensures refused { result ≡ Status.Refused → IsRefused (map string_bytes words.now.items)
+        (I.left input.old) (I.left input.new) (O.taken output.old) (O.taken output.new)
+        (E.faults notes.old) (E.faults notes.new) (E.taken notes.old) (E.taken notes.new) }
+    ensures read_fault { result ≡ Status.ReadFault → IsReadFault (I.faults input.old) (I.faults input.new)
+        (I.left input.old) (I.left input.new) (O.taken output.old) (O.taken output.new)
+        (E.faults notes.old) (E.faults notes.new) (E.taken notes.old) (E.taken notes.new) }
+    ensures write_fault { result ≡ Status.WriteFault → IsWriteFault (map string_bytes words.now.items)
+        (I.left input.old) (I.left input.new) (O.faults output.old) (O.faults output.new)
+        (O.taken output.old) (O.taken output.new)
+        (E.faults notes.old) (E.faults notes.new) (E.taken notes.old) (E.taken notes.new) }
+    // For every input that spells manifests and every Pod of theirs: one listener is written, which
+    // gives each connection the verdict of the policies, unless memory, a read or a write failed.
+    ensures headline { (name : PodName) (bytes : List ℕ)
+        → command_of (map string_bytes words.now.items) ≡ Some name
+        → I.left input.old ≡ Some bytes → length bytes ≤ max_input
+        → (accepted : Accepted name bytes)
+        → Serves result accepted.bundle accepted.pod (I.left input.new)
+            (O.taken output.old) (O.taken output.new) (O.flushed output.new)
+            (I.faults input.old) (I.faults input.new) (O.faults output.old) (O.faults output.new) }
+    ensures memory { result ≡ Status.Memory → IsMemory (I.left input.old) (I.left input.new)
+        (O.taken output.old) (O.taken output.new)
+        (E.faults notes.old) (E.faults notes.new) (E.taken notes.old) (E.taken notes.new) }
 {
     let Some((namespace, name)) = command(words.as_slice()) else {
         say(notes, USAGE);
@@ -52,11 +83,13 @@ pub fn run<I: Source, O: Sink, E: Sink>(
             return Status::Refused;
         }
     };
-    if deliver(text.as_str(), output).is_err() {
-        say(notes, "write fault\n");
-        return Status::WriteFault;
+    match deliver(text.as_str(), output) {
+        Ok(()) => Status::Done,
+        Err(_) => {
+            say(notes, "write fault\n");
+            Status::WriteFault
+        }
     }
-    Status::Done
 }
 
 // Why the input gives no text.

@@ -1,0 +1,3 @@
+pub mod AddressLemmas
+pub mod WrittenLemmas
+pub mod BlockLemmas

@@ -68,7 +68,7 @@ reads text (V6 n) spelled =
     ∙ ap (option_map v6_of) (v6_reads text spelled.0 spelled.1)
     ∙ ap (λ m. Some (V6 m)) (sym spelled.2)
 
-spells : (text : List ℕ) (ip : IpAddr) → ip_of text ≡ Some ip → Spells text ip
+pub spells : (text : List ℕ) (ip : IpAddr) → ip_of text ≡ Some ip → Spells text ip
 unfolding ip_of
 spells text ip h = go (whole_value (read_ipv4 text)) (whole_value (read_ipv6 text)) refl refl h
   where

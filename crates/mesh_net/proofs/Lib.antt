@@ -1,3 +1,4 @@
 pub mod AddressLemmas
-pub mod WrittenLemmas
 pub mod BlockLemmas
+pub mod SlashLemmas
+pub mod WrittenLemmas

@@ -1,9 +1,9 @@
-use Rattle.std.proofs.Common.{rules, lit<, None}
-use Rattle.std.proofs.lemmas.Str.Pattern.{split_once_first}
-use Rattle.mesh_net.proofs.BlockLemmas.{no_slash}
+use Rattle.std.proofs.Common.{◌∙◌}
+use Rattle.mesh_net.proofs.BlockLemmas.{block_reads, spelled_if_some}
 use Rattle.mesh_net.proofs.block.parse_cidr.Goals as goal
 
-pub returns-in-None : goal.returns-in-None
-returns-in-None c =
-    let none = no_slash c.args.s.now (split_once_first 47 c.args.s.now None c.in-None.ensures.cases (lit< tt)) in
-    rw none (search rules)
+pub returns-clause-spelled : goal.returns-clause-spelled
+returns-clause-spelled c = spelled_if_some c.args.s.now c.read.result c.read.ensures
+
+pub returns-clause-only : goal.returns-clause-only
+returns-clause-only c block spelled = c.read.ensures ∙ block_reads c.args.s.now block spelled

@@ -98,11 +98,9 @@ fn blocks_hold_their_addresses(rt: HostRuntime) {
         ("::1/128", "::1", true),
         ("::1/128", "::", false),
     ] {
-        let read = (parse_cidr(block), parse_ip(ip));
-        assert!(rt;
-            matches!(read, (Some(b), Some(a)) if b.contains(&a) == want),
-            "{block} {ip}"
-        );
+        let read = parse_cidr(block).expect(&rt, "a block");
+        let other = parse_ip(ip).expect(&rt, "an address");
+        assert_eq!(rt; read.contains(&other), want, "{block} {ip}");
     }
     for s in [
         "",

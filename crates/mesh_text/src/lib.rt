@@ -9,8 +9,6 @@ mod list;
 mod memory;
 mod number;
 mod parts;
-#[cfg(test)]
-mod tests;
 mod text;
 mod time;
 mod token;
@@ -25,3 +23,6 @@ pub use parts::{contains, is_prefix, is_suffix};
 pub use text::Text;
 pub use time::is_time;
 pub use token::is_token;
+
+#[cfg(test)]
+mod tests;

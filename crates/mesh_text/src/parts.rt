@@ -2,6 +2,7 @@ ghost use Rattle.std.specs.Prelude.{◌≡◌, ◌↔◌, IsTrue};
 ghost use Rattle.std.specs.Str.{bytes_eq, str_to_ascii_lowercase};
 ghost use Rattle.mesh_text.specs.Parts.{is_part, is_prefix, is_suffix, IsPart, IsPrefix, IsSuffix};
 
+/// Whether `whole` begins with `front`, byte by byte.
 pub fn is_prefix(front: &str, whole: &str) -> bool
     ensures value { result ≡ is_prefix front.now whole.now }
     ensures means { IsTrue result ↔ IsPrefix front.now whole.now }
@@ -9,6 +10,7 @@ pub fn is_prefix(front: &str, whole: &str) -> bool
     begins_with(front.as_bytes(), whole.as_bytes())
 }
 
+/// Whether `whole` ends with `end`, byte by byte.
 pub fn is_suffix(end: &str, whole: &str) -> bool
     ensures value { result ≡ is_suffix end.now whole.now }
     ensures means { IsTrue result ↔ IsSuffix end.now whole.now }

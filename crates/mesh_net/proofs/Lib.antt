@@ -1,0 +1,4 @@
+pub mod AddressLemmas
+pub mod BlockLemmas
+pub mod SlashLemmas
+pub mod WrittenLemmas

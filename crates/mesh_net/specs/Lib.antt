@@ -1,0 +1,4 @@
+pub mod Address
+pub mod Block
+pub mod Network
+pub mod Written

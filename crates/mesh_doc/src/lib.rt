@@ -4,11 +4,27 @@
 #![tactic(auto)]
 
 mod fault;
+mod fields;
+mod forms;
+mod kinds;
+mod known;
+mod laws;
+mod lists;
+mod maps;
 mod place;
+mod printed;
 mod reason;
 mod spot;
 
-pub use fault::{refuse, DocError, Fault};
-pub use place::{below_index, below_key, Place, Step};
+pub use fault::{DocError, Fault, refuse};
+pub use fields::{field, missing, written};
+pub use forms::{AnyNumber, AnyText, AnyTruth, Form, optional, required};
+pub use kinds::{list, number, object, text, truth};
+pub use known::only_fields;
+pub use laws::reading_order;
+pub use lists::{entries, listed};
+pub use maps::{Entry, members};
+pub use place::{Place, Step, below_index, below_key};
+pub use printed::place_text;
 pub use reason::Reason;
 pub use spot::Spot;

@@ -64,3 +64,17 @@ required_in name value d = value (unwrap_or (field_in name d) null)
 
 unfoldable pub optional_in : {A : Type 0} → List ℕ → (Data → A) → Data → Option A
 optional_in name value d = option_map value (field_in name d)
+
+-- ---- one field, where `null` is a value like any other
+
+unfoldable pub required_written : List ℕ → Check → Check
+required_written name f d at = found_faults (fault MissingField (at_key name at)) f (get name d) (at_key name at)
+
+unfoldable pub optional_written : List ℕ → Check → Check
+optional_written name f d at = found_faults none f (get name d) (at_key name at)
+
+unfoldable pub required_written_in : {A : Type 0} → List ℕ → (Data → A) → Data → A
+required_written_in name value d = value (unwrap_or (get name d) null)
+
+unfoldable pub optional_written_in : {A : Type 0} → List ℕ → (Data → A) → Data → Option A
+optional_written_in name value d = option_map value (get name d)

@@ -14,3 +14,7 @@ FirstOfJoined = (fs gs : List Fault) → first_in (fs ++ gs) ≡ or_else (first_
 -- so what a reader answers along the parts is the first of the whole list
 abbrev pub FirstOfAll : Type 0
 FirstOfAll = (fs : Faults) → first fs ≡ first_in (all_of fs)
+
+-- and there is none only where the list is empty
+abbrev pub NoneOfEmpty : Type 0
+NoneOfEmpty = (fs : List Fault) → first_in fs ≡ None → fs ≡ []

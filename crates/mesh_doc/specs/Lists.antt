@@ -2,8 +2,9 @@
 use Rattle.std.specs.Prelude.{ℕ, ◌+◌, Bool, List, [], ◌∷◌, Option, Some, None, nat_le}
 use Rattle.serde_json.specs.Data.{Data, Items, no_items, item, Members, no_members, member}
 use Rattle.serde_json.specs.Events.{items_len}
+use Rattle.serde_json.specs.Find.{get}
 use Rattle.mesh_doc.specs.Faults.{Check, Faults, none, joined, hiding, ◌▸◌, unless}
-use Rattle.mesh_doc.specs.Fields.{field_in, optional}
+use Rattle.mesh_doc.specs.Fields.{field_in, optional, optional_written}
 use Rattle.mesh_doc.specs.Kinds.{items_of, members_of, list_faults, object_faults}
 use Rattle.mesh_doc.specs.Places.{Steps, at_key, at_index}
 use Rattle.mesh_doc.specs.declared.reason.Reason.TheVariants.{TooMany}
@@ -38,6 +39,13 @@ found_list value (Some d) = list_in value d
 
 unfoldable pub listed_in : {A : Type 0} → List ℕ → (Data → A) → Data → List A
 listed_in name value d = found_list value (field_in name d)
+
+-- the same where `null` is a value like any other
+unfoldable pub listed_written : List ℕ → ℕ → Check → Check
+listed_written name most f = optional_written name (list_of most f)
+
+unfoldable pub listed_written_in : {A : Type 0} → List ℕ → (Data → A) → Data → List A
+listed_written_in name value d = found_list value (get name d)
 
 -- ---- objects whose keys are data
 

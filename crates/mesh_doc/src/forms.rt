@@ -5,7 +5,7 @@ ghost use Rattle.mesh_doc.specs.Fields as fields;
 ghost use Rattle.mesh_doc.specs.Kinds.{text_faults, text_in, number_faults, number_in, truth_faults, truth_in};
 ghost use Rattle.serde_json.specs.Data.{Data};
 
-use crate::{DocError, Place, Reason, Spot, field, missing};
+use crate::{DocError, Place, Reason, Spot, field, missing, written};
 use mesh_text::Text;
 use serde_json::Value;
 use std::alloc::Global;
@@ -51,6 +51,38 @@ pub fn optional<F: Form>(
     ensures { Reads result (fields.optional name.now F.faults (view v.now) place.now) (fields.optional_in name.now F.value (view v.now)) }
 {
     match field(v, name) {
+        Some(found) => Ok(Some(F::read(alloc, found, &Spot::key(place, name))?)),
+        None => Ok(None),
+    }
+}
+
+/// As `required`, but a field that is `null` is there.
+#[tactic(auto, unfolding(crate::specs::Fields::required_written, crate::specs::Fields::required_written_in))]
+pub fn required_written<F: Form>(
+    alloc: Global,
+    v: &Value,
+    name: &str,
+    place: &Place,
+) -> Result<F::Out, DocError>
+    ensures { Reads result (fields.required_written name.now F.faults (view v.now) place.now) (fields.required_written_in name.now F.value (view v.now)) }
+{
+    match written(v, name) {
+        Some(found) => F::read(alloc, found, &Spot::key(place, name)),
+        None => Err(missing(alloc, name, place)),
+    }
+}
+
+/// As `optional`, but a field that is `null` is there.
+#[tactic(auto, unfolding(crate::specs::Fields::optional_written, crate::specs::Fields::optional_written_in))]
+pub fn optional_written<F: Form>(
+    alloc: Global,
+    v: &Value,
+    name: &str,
+    place: &Place,
+) -> Result<Option<F::Out>, DocError>
+    ensures { Reads result (fields.optional_written name.now F.faults (view v.now) place.now) (fields.optional_written_in name.now F.value (view v.now)) }
+{
+    match written(v, name) {
         Some(found) => Ok(Some(F::read(alloc, found, &Spot::key(place, name))?)),
         None => Ok(None),
     }

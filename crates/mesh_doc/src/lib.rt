@@ -15,14 +15,18 @@ mod place;
 mod printed;
 mod reason;
 mod spot;
+#[cfg(test)]
+mod tests;
 
 pub use fault::{DocError, Fault, refuse};
 pub use fields::{field, missing, written};
-pub use forms::{AnyNumber, AnyText, AnyTruth, Form, optional, required};
+pub use forms::{
+    AnyNumber, AnyText, AnyTruth, Form, optional, optional_written, required, required_written,
+};
 pub use kinds::{list, number, object, text, truth};
 pub use known::only_fields;
 pub use laws::reading_order;
-pub use lists::{entries, listed};
+pub use lists::{entries, listed, listed_written};
 pub use maps::{Entry, members};
 pub use place::{Place, Step, below_index, below_key};
 pub use printed::place_text;

@@ -3,7 +3,7 @@ ghost use Rattle.serde_json.specs.View.{view, items_view};
 ghost use Rattle.mesh_doc.specs.Faults.{Reads};
 ghost use Rattle.mesh_doc.specs.Lists as lists;
 
-use crate::{DocError, Form, Place, Reason, Spot, below_key, field, refuse};
+use crate::{DocError, Form, Place, Reason, Spot, below_key, field, refuse, written};
 use mesh_text::List;
 use serde_json::Value;
 use std::alloc::Global;
@@ -38,6 +38,23 @@ pub fn listed<F: Form>(
     ensures { Reads result (lists.listed name.now most F.faults (view v.now) place.now) (lists.listed_in name.now F.value (view v.now)) }
 {
     match field(v, name) {
+        Some(found) => entries::<F>(alloc, found, most, &below_key(alloc, place, name)?),
+        None => Ok(List::new(alloc)),
+    }
+}
+
+/// As `listed`, but a field that is `null` is there, and is no list.
+#[tactic(auto, unfolding(crate::specs::Lists::listed_written, crate::specs::Lists::listed_written_in, crate::specs::Fields::optional_written))]
+pub fn listed_written<F: Form>(
+    alloc: Global,
+    v: &Value,
+    name: &str,
+    most: u32,
+    place: &Place,
+) -> Result<List<F::Out>, DocError>
+    ensures { Reads result (lists.listed_written name.now most F.faults (view v.now) place.now) (lists.listed_written_in name.now F.value (view v.now)) }
+{
+    match written(v, name) {
         Some(found) => entries::<F>(alloc, found, most, &below_key(alloc, place, name)?),
         None => Ok(List::new(alloc)),
     }

@@ -44,12 +44,14 @@ pub fn below_index(alloc: Global, place: &Place, index: u32) -> Result<Place, Me
     Ok(below)
 }
 
+// It has room for one step more.
 pub(crate) fn copy_of(alloc: Global, place: &Place) -> Result<Place, Memory>
     ensures { IfOk result (λ p. p ≡ place.now) }
 {
-    let mut copy = List::new(alloc);
-    for step in place.as_slice() {
+    let steps = place.as_slice();
+    let mut copy = Vec::with_capacity(alloc, steps.len() + 1)?;
+    for step in steps {
         copy.push(step.copy(alloc)?)?;
     }
-    Ok(copy)
+    Ok(List::from_vec(copy))
 }

@@ -32,7 +32,9 @@ pub fn required<F: Form>(
     name: &str,
     place: &Place,
 ) -> Result<F::Out, DocError>
-    ensures { Reads result (fields.required name.now F.faults (view v.now) place.now) (fields.required_in name.now F.value (view v.now)) }
+    ensures { Reads result
+        (fields.required name.now F.faults (view v.now) place.now)
+        (fields.required_in name.now F.value (view v.now)) }
 {
     match field(v, name) {
         Some(found) => F::read(alloc, found, &Spot::key(place, name)),
@@ -48,7 +50,9 @@ pub fn optional<F: Form>(
     name: &str,
     place: &Place,
 ) -> Result<Option<F::Out>, DocError>
-    ensures { Reads result (fields.optional name.now F.faults (view v.now) place.now) (fields.optional_in name.now F.value (view v.now)) }
+    ensures { Reads result
+        (fields.optional name.now F.faults (view v.now) place.now)
+        (fields.optional_in name.now F.value (view v.now)) }
 {
     match field(v, name) {
         Some(found) => Ok(Some(F::read(alloc, found, &Spot::key(place, name))?)),
@@ -64,7 +68,9 @@ pub fn required_written<F: Form>(
     name: &str,
     place: &Place,
 ) -> Result<F::Out, DocError>
-    ensures { Reads result (fields.required_written name.now F.faults (view v.now) place.now) (fields.required_written_in name.now F.value (view v.now)) }
+    ensures { Reads result
+        (fields.required_written name.now F.faults (view v.now) place.now)
+        (fields.required_written_in name.now F.value (view v.now)) }
 {
     match written(v, name) {
         Some(found) => F::read(alloc, found, &Spot::key(place, name)),
@@ -80,7 +86,9 @@ pub fn optional_written<F: Form>(
     name: &str,
     place: &Place,
 ) -> Result<Option<F::Out>, DocError>
-    ensures { Reads result (fields.optional_written name.now F.faults (view v.now) place.now) (fields.optional_written_in name.now F.value (view v.now)) }
+    ensures { Reads result
+        (fields.optional_written name.now F.faults (view v.now) place.now)
+        (fields.optional_written_in name.now F.value (view v.now)) }
 {
     match written(v, name) {
         Some(found) => Ok(Some(F::read(alloc, found, &Spot::key(place, name))?)),

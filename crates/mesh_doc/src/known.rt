@@ -27,7 +27,9 @@ fn only_known(
     known: &str,
     place: &Place,
 ) -> Result<(), DocError>
-    ensures { Reads result (fields.unknown_in known.now (members_view members.now.entries) place.now) tt }
+    ensures { Reads result
+        (fields.unknown_in known.now (members_view members.now.entries) place.now)
+        tt }
 {
     for (name, _) in members.iter() {
         if !is_known(known, name.as_str()) {

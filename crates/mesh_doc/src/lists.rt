@@ -17,7 +17,9 @@ pub fn entries<F: Form>(
     most: u32,
     place: &Place,
 ) -> Result<List<F::Out>, DocError>
-    ensures { Reads result (lists.list_of most F.faults (view v.now) place.now) (lists.list_in F.value (view v.now)) }
+    ensures { Reads result
+        (lists.list_of most F.faults (view v.now) place.now)
+        (lists.list_in F.value (view v.now)) }
 {
     match v {
         Value::Array(items) => short_list::<F>(alloc, items.as_slice(), most, place),
@@ -35,7 +37,9 @@ pub fn listed<F: Form>(
     most: u32,
     place: &Place,
 ) -> Result<List<F::Out>, DocError>
-    ensures { Reads result (lists.listed name.now most F.faults (view v.now) place.now) (lists.listed_in name.now F.value (view v.now)) }
+    ensures { Reads result
+        (lists.listed name.now most F.faults (view v.now) place.now)
+        (lists.listed_in name.now F.value (view v.now)) }
 {
     match field(v, name) {
         Some(found) => entries::<F>(alloc, found, most, &below_key(alloc, place, name)?),
@@ -52,7 +56,9 @@ pub fn listed_written<F: Form>(
     most: u32,
     place: &Place,
 ) -> Result<List<F::Out>, DocError>
-    ensures { Reads result (lists.listed_written name.now most F.faults (view v.now) place.now) (lists.listed_written_in name.now F.value (view v.now)) }
+    ensures { Reads result
+        (lists.listed_written name.now most F.faults (view v.now) place.now)
+        (lists.listed_written_in name.now F.value (view v.now)) }
 {
     match written(v, name) {
         Some(found) => entries::<F>(alloc, found, most, &below_key(alloc, place, name)?),
@@ -67,7 +73,9 @@ fn short_list<F: Form>(
     most: u32,
     place: &Place,
 ) -> Result<List<F::Out>, DocError>
-    ensures { Reads result (lists.entries_faults most F.faults (items_view items.now) place.now) (lists.each_in F.value (items_view items.now)) }
+    ensures { Reads result
+        (lists.entries_faults most F.faults (items_view items.now) place.now)
+        (lists.each_in F.value (items_view items.now)) }
 {
     if items.len() > most as usize {
         return Err(refuse(alloc, place, Reason::TooMany));
@@ -77,7 +85,9 @@ fn short_list<F: Form>(
 
 fn each<F: Form>(alloc: Global, items: &[Value], place: &Place) -> Result<List<F::Out>, DocError>
     requires { length items.now < 2 ^ 32 }
-    ensures { Reads result (lists.each_faults F.faults 0 (items_view items.now) place.now) (lists.each_in F.value (items_view items.now)) }
+    ensures { Reads result
+        (lists.each_faults F.faults 0 (items_view items.now) place.now)
+        (lists.each_in F.value (items_view items.now)) }
 {
     let mut all = List::new(alloc);
     for (i, v) in items.iter().enumerate() {

@@ -26,7 +26,9 @@ pub trait Entry {
 /// the first fault of its members.
 #[tactic(auto, unfolding(crate::specs::Lists::map_of, crate::specs::Lists::map_in, crate::specs::Kinds::object_faults))]
 pub fn members<E: Entry>(alloc: Global, v: &Value, place: &Place) -> Result<Items<E::Out>, DocError>
-    ensures { Reads result (lists.map_of E.faults (view v.now) place.now) (lists.map_in E.value (view v.now)) }
+    ensures { Reads result
+        (lists.map_of E.faults (view v.now) place.now)
+        (lists.map_in E.value (view v.now)) }
 {
     match v {
         Value::Object(fields) => each_member::<E>(alloc, fields, place),
@@ -39,7 +41,9 @@ fn each_member<E: Entry>(
     fields: &Map<String, Value>,
     place: &Place,
 ) -> Result<Items<E::Out>, DocError>
-    ensures { Reads result (lists.each_member_faults E.faults (members_view fields.now.entries) place.now) (lists.each_member_in E.value (members_view fields.now.entries)) }
+    ensures { Reads result
+        (lists.each_member_faults E.faults (members_view fields.now.entries) place.now)
+        (lists.each_member_in E.value (members_view fields.now.entries)) }
 {
     let mut all = Items::new(alloc);
     for (key, v) in fields.iter() {

@@ -4,6 +4,8 @@
 
 mod labels;
 mod peer;
+#[cfg(test)]
+mod tests;
 
 pub use labels::read_labels;
 pub use peer::read_peer;

@@ -64,7 +64,9 @@ fn read_spec(
     v: &Value,
     place: &Place,
 ) -> Result<PeerAuthentication, DocError>
-    ensures { Reads result (peer_faults (view v.now) place.now) (peer_in name namespace age (view v.now)) }
+    ensures { Reads result
+        (peer_faults (view v.now) place.now)
+        (peer_in name namespace age (view v.now)) }
 {
     only_fields(alloc, v, PEER_FIELDS, place)?;
     let labels = optional::<Selector>(alloc, v, SELECTOR, place)?;

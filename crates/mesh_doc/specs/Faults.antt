@@ -2,9 +2,9 @@
 --
 -- A form is told by its `Check`: what can be wrong with a value that stands at a place. A check lists every fault.
 -- The reader stops at the first one.
-use Rattle.std.specs.Prelude.{◌≡◌, Bool, true, false, List, [], ◌∷◌, ◌++◌, Option, Some, None, Result, Ok, Err}
+use Rattle.std.specs.Prelude.{◌≡◌, ℕ, Bool, true, false, List, [], ◌∷◌, ◌++◌, Option, Some, None, Result, Ok, Err}
 use Rattle.serde_json.specs.Data.{Data}
-use Rattle.mesh_doc.specs.Places.{Steps}
+use Rattle.mesh_doc.specs.Places.{Steps, at_key}
 use Rattle.mesh_doc.specs.declared.fault.DocError.{DocError}
 use Rattle.mesh_doc.specs.declared.fault.DocError.TheVariants as error
 use Rattle.mesh_doc.specs.declared.fault.Fault.{Fault}
@@ -67,6 +67,10 @@ unless false reason at = fault reason at
 -- the value itself passes the test
 abbrev pub demands : (Data → Bool) → Reason → Check
 demands test reason d at = unless (test d) reason at
+
+-- a fault of the value that stands at one of its fields, there or not
+abbrev pub at_field : List ℕ → Check → Check
+at_field name f d at = f d (at_key name at)
 
 -- in reading order
 infixr 8 ◌⨾◌

@@ -7,3 +7,4 @@ pub mod Places
 pub mod Printed
 pub mod Reasons
 pub mod Spots
+pub mod Turns

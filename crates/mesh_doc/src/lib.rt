@@ -17,6 +17,7 @@ mod reason;
 mod spot;
 #[cfg(test)]
 mod tests;
+mod turns;
 
 pub use fault::{DocError, Fault, refuse};
 pub use fields::{field, missing, written};
@@ -32,3 +33,4 @@ pub use place::{Place, Step, below_index, below_key};
 pub use printed::place_text;
 pub use reason::Reason;
 pub use spot::Spot;
+pub use turns::{InTurn, entries_in_turn, listed_in_turn};

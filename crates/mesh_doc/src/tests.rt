@@ -48,6 +48,31 @@ impl Entry for NumberEntry {
     }
 }
 
+// A number that no earlier entry is.
+struct Distinct;
+
+impl InTurn for Distinct {
+    ghost use Rattle.std.specs.Prelude.{not, ◌==◌};
+    ghost use Rattle.std.specs.List.{list_any};
+    ghost use Rattle.mesh_doc.specs.Faults.{demands, ◌▸◌};
+    ghost use Rattle.mesh_doc.specs.Kinds.{number_faults, number_in};
+    ghost use Rattle.mesh_doc.specs.declared.reason.Reason.TheVariants.{DuplicateItem};
+
+    type Out = u64;
+
+    ghost faults = { λ earlier. number_faults ▸ demands (λ d. not (list_any (λ n. n == number_in d) earlier)) DuplicateItem };
+
+    ghost value = { number_in };
+
+    fn read(alloc: Global, earlier: &[u64], v: &Value, at: &Spot) -> Result<u64, DocError> {
+        let number = AnyNumber::read(alloc, v, at)?;
+        if earlier.iter().any(|n| *n == number) {
+            return Err(at.refuse(alloc, Reason::DuplicateItem));
+        }
+        Ok(number)
+    }
+}
+
 fn told<T: Drop>(rt: &impl Abort, alloc: Global, outcome: Result<T, DocError>) -> String {
     match outcome {
         Ok(_) => format!(in alloc; "ok").expect(rt, "memory"),
@@ -165,5 +190,31 @@ fn each_call_answers_what_it_read(rt: HostRuntime) {
     assert!(rt; here == there);
     let gone: Result<(), DocError> = Err(missing(alloc, "k", &whole));
     assert_eq!(rt; told(&rt, rt.alloc(), gone).as_str(), "$/k: MissingField");
+    let distinct = entries_in_turn::<Distinct>(alloc, l, 3, &whole).expect(&rt, "numbers");
+    assert_eq!(rt; distinct.as_slice(), [1, 2, 3].as_slice());
     reading_order();
+}
+
+#[test]
+fn earlier_entries_count(rt: HostRuntime) {
+    let whole: Place = List::new(rt.alloc());
+    for (text, want) in [
+        (r#"{"l":[3,1,2]}"#, "ok"),
+        (r#"{"l":null}"#, "ok"),
+        ("{}", "ok"),
+        (r#"{"l":[1,2,1,2]}"#, "$/l/2: DuplicateItem"),
+        (r#"{"l":[1,1,"1"]}"#, "$/l/1: DuplicateItem"),
+        (r#"{"l":[1,"1",1]}"#, "$/l/1: WrongType"),
+        (r#"{"l":[1,2,3,3]}"#, "$/l/3: DuplicateItem"),
+        (r#"{"l":[1,1,1,1,1]}"#, "$/l: TooMany"),
+        (r#"{"l":{}}"#, "$/l: WrongType"),
+    ] {
+        let v = Value::from_str(rt.alloc(), text).expect(&rt, "JSON");
+        let outcome = told(
+            &rt,
+            rt.alloc(),
+            listed_in_turn::<Distinct>(rt.alloc(), &v, "l", 4, &whole),
+        );
+        assert_eq!(rt; outcome.as_str(), want, "{text}");
+    }
 }

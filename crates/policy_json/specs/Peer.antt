@@ -2,7 +2,7 @@
 use Rattle.std.specs.Prelude.{ℕ, ◌<◌, Bool, ◌==◌, List, [], Option, Some, None, is_some, unwrap_or, option_and_then, if◌then◌else◌}
 use Rattle.std.specs.Str.{bytes_eq}
 use Rattle.serde_json.specs.Data.{Data, null, boolean, number, string, array, object, no_members}
-use Rattle.mesh_doc.specs.Faults.{Check, Faults, none, joined, ◌⨾◌, ◌▸◌, demands, unless}
+use Rattle.mesh_doc.specs.Faults.{Check, ◌⨾◌, ◌▸◌, demands, unless}
 use Rattle.mesh_doc.specs.Fields.{strict, optional, optional_in}
 use Rattle.mesh_doc.specs.Kinds.{text_faults, text_in}
 use Rattle.mesh_doc.specs.Lists.{map_of, map_in}
@@ -47,27 +47,19 @@ abbrev pub port_of : List ℕ → Option ℕ
 port_of key = option_and_then unless_zero (decimal_of key)
 
 -- here `null` is the empty object
-abbrev pub null_or : Check → Check
-null_or f null at = none
-null_or f (boolean b) at = f (boolean b) at
-null_or f (number n) at = f (number n) at
-null_or f (string s) at = f (string s) at
-null_or f (array ds) at = f (array ds) at
-null_or f (object ms) at = f (object ms) at
-
-abbrev pub mtls_or_null : Data → Option Mode
-mtls_or_null null = None
-mtls_or_null (boolean b) = mtls_in (boolean b)
-mtls_or_null (number n) = mtls_in (number n)
-mtls_or_null (string s) = mtls_in (string s)
-mtls_or_null (array ds) = mtls_in (array ds)
-mtls_or_null (object ms) = mtls_in (object ms)
+abbrev pub or_empty : Data → Data
+or_empty null = object no_members
+or_empty (boolean b) = boolean b
+or_empty (number n) = number n
+or_empty (string s) = string s
+or_empty (array ds) = array ds
+or_empty (object ms) = object ms
 
 unfoldable pub port_faults : List ℕ → Check
-port_faults key = demands (λ d. is_some (port_of key)) BadPort ⨾ null_or mtls_faults
+port_faults key = demands (λ d. is_some (port_of key)) BadPort ⨾ λ d at. mtls_faults (or_empty d) at
 
 unfoldable pub port_in : List ℕ → Data → PortMode
-port_in key d = record { port = unwrap_or (port_of key) 0; mode = mtls_or_null d }
+port_in key d = record { port = unwrap_or (port_of key) 0; mode = mtls_in (or_empty d) }
 
 unfoldable pub ports_faults : Check
 ports_faults = map_of port_faults

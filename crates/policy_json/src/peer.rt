@@ -155,7 +155,10 @@ impl Entry for PortEntry {
             return Err(at.refuse(alloc, Reason::BadPort));
         };
         match v {
-            Value::Null => Ok(PortMode { port, mode: None }),
+            Value::Null => Ok(PortMode {
+                port,
+                mode: Mtls::read(alloc, &Value::Object(Map::new(alloc)), at)?,
+            }),
             _ => Ok(PortMode {
                 port,
                 mode: Mtls::read(alloc, v, at)?,

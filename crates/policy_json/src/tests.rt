@@ -1,5 +1,5 @@
 use super::*;
-use mesh_doc::{below_key, place_text, DocError, Place};
+use mesh_doc::{DocError, Place, below_key, place_text};
 use mesh_policy::{Label, Mode, PeerAuthentication};
 use mesh_text::{List, Text};
 use serde_json::Value;
@@ -51,12 +51,18 @@ fn a_peer_policy_is_its_spec(rt: HostRuntime) {
         ("{}", "-"),
         (r#"{"selector":null,"mtls":null,"portLevelMtls":null}"#, "-"),
         (r#"{"selector":{},"mtls":{},"portLevelMtls":{}}"#, "-"),
-        (r#"{"selector":{"matchLabels":null},"mtls":{"mode":null}}"#, "-"),
+        (
+            r#"{"selector":{"matchLabels":null},"mtls":{"mode":null}}"#,
+            "-",
+        ),
         (r#"{"mtls":{"mode":"UNSET"}}"#, "-"),
         (r#"{"mtls":{"mode":"DISABLE"}}"#, "disable"),
         (r#"{"mtls":{"mode":"PERMISSIVE"}}"#, "permissive"),
         (r#"{"mtls":{"mode":"STRICT"}}"#, "strict"),
-        (r#"{"selector":{"matchLabels":{"b":"","app":"web"}}}"#, "app=web b= -"),
+        (
+            r#"{"selector":{"matchLabels":{"b":"","app":"web"}}}"#,
+            "app=web b= -",
+        ),
         (
             r#"{"portLevelMtls":{"80":{"mode":"DISABLE"},"8080":null,"443":{},"65535":{"mode":"UNSET"},"1":{"mode":"STRICT"}}}"#,
             "- 1:strict 443:- 65535:- 80:disable 8080:-",
@@ -65,24 +71,63 @@ fn a_peer_policy_is_its_spec(rt: HostRuntime) {
         ("\"mtls\"", "$/spec: WrongType"),
         (r#"{"mode":"STRICT"}"#, "$/spec/mode: UnknownField"),
         (r#"{"targetRefs":[]}"#, "$/spec/targetRefs: UnknownField"),
-        (r#"{"zz":1,"portLevelMTLS":null,"selector":1}"#, "$/spec/portLevelMTLS: UnknownField"),
+        (
+            r#"{"zz":1,"portLevelMTLS":null,"selector":1}"#,
+            "$/spec/portLevelMTLS: UnknownField",
+        ),
         (r#"{"mtls":1,"selector":[]}"#, "$/spec/selector: WrongType"),
         (r#"{"portLevelMtls":1,"mtls":[]}"#, "$/spec/mtls: WrongType"),
-        (r#"{"selector":{"matchLabel":{}}}"#, "$/spec/selector/matchLabel: UnknownField"),
-        (r#"{"selector":{"matchLabels":[]}}"#, "$/spec/selector/matchLabels: WrongType"),
-        (r#"{"selector":{"matchLabels":{"b":1,"a/b":null}}}"#, "$/spec/selector/matchLabels/a~1b: WrongType"),
+        (
+            r#"{"selector":{"matchLabel":{}}}"#,
+            "$/spec/selector/matchLabel: UnknownField",
+        ),
+        (
+            r#"{"selector":{"matchLabels":[]}}"#,
+            "$/spec/selector/matchLabels: WrongType",
+        ),
+        (
+            r#"{"selector":{"matchLabels":{"b":1,"a/b":null}}}"#,
+            "$/spec/selector/matchLabels/a~1b: WrongType",
+        ),
         (r#"{"mtls":{"mode":"strict"}}"#, "$/spec/mtls/mode: BadEnum"),
         (r#"{"mtls":{"mode":""}}"#, "$/spec/mtls/mode: BadEnum"),
-        (r#"{"mtls":{"mode":["STRICT"]}}"#, "$/spec/mtls/mode: WrongType"),
-        (r#"{"mtls":{"mode":"X","node":1}}"#, "$/spec/mtls/node: UnknownField"),
+        (
+            r#"{"mtls":{"mode":["STRICT"]}}"#,
+            "$/spec/mtls/mode: WrongType",
+        ),
+        (
+            r#"{"mtls":{"mode":"X","node":1}}"#,
+            "$/spec/mtls/node: UnknownField",
+        ),
         (r#"{"portLevelMtls":[]}"#, "$/spec/portLevelMtls: WrongType"),
-        (r#"{"portLevelMtls":{"0":{}}}"#, "$/spec/portLevelMtls/0: BadPort"),
-        (r#"{"portLevelMtls":{"65536":null}}"#, "$/spec/portLevelMtls/65536: BadPort"),
-        (r#"{"portLevelMtls":{"080":{}}}"#, "$/spec/portLevelMtls/080: BadPort"),
-        (r#"{"portLevelMtls":{"":{}}}"#, "$/spec/portLevelMtls/: BadPort"),
-        (r#"{"portLevelMtls":{"http":{"mode":1}}}"#, "$/spec/portLevelMtls/http: BadPort"),
-        (r#"{"portLevelMtls":{"9x":1,"80":{"mode":"X"}}}"#, "$/spec/portLevelMtls/80/mode: BadEnum"),
-        (r#"{"portLevelMtls":{"80":[],"8":0}}"#, "$/spec/portLevelMtls/8: WrongType"),
+        (
+            r#"{"portLevelMtls":{"0":{}}}"#,
+            "$/spec/portLevelMtls/0: BadPort",
+        ),
+        (
+            r#"{"portLevelMtls":{"65536":null}}"#,
+            "$/spec/portLevelMtls/65536: BadPort",
+        ),
+        (
+            r#"{"portLevelMtls":{"080":{}}}"#,
+            "$/spec/portLevelMtls/080: BadPort",
+        ),
+        (
+            r#"{"portLevelMtls":{"":{}}}"#,
+            "$/spec/portLevelMtls/: BadPort",
+        ),
+        (
+            r#"{"portLevelMtls":{"http":{"mode":1}}}"#,
+            "$/spec/portLevelMtls/http: BadPort",
+        ),
+        (
+            r#"{"portLevelMtls":{"9x":1,"80":{"mode":"X"}}}"#,
+            "$/spec/portLevelMtls/80/mode: BadEnum",
+        ),
+        (
+            r#"{"portLevelMtls":{"80":[],"8":0}}"#,
+            "$/spec/portLevelMtls/8: WrongType",
+        ),
     ] {
         let v = Value::from_str(alloc, text).expect(&rt, "JSON");
         let name = Text::of(alloc, "m").expect(&rt, "memory");
@@ -100,7 +145,10 @@ fn a_peer_policy_is_its_spec(rt: HostRuntime) {
     assert_eq!(rt; told(&rt, alloc, &peer).as_str(), "-");
     assert_eq!(rt; peer.name.as_str(), "m");
     assert_eq!(rt; peer.namespace.as_str(), "foo");
-    assert_eq!(rt; peer.age.expect(&rt, "an age").as_str(), "2024-05-01T10:00:00Z");
+    assert_eq!(rt;
+        peer.age.expect(&rt, "an age").as_str(),
+        "2024-05-01T10:00:00Z"
+    );
 }
 
 #[test]

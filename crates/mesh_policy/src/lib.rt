@@ -5,11 +5,13 @@
 mod bundle;
 mod case;
 mod judge;
+mod peer;
 mod policy;
 mod verdict;
 
 pub use bundle::{Bundle, Label, Pod};
 pub use case::{Case, Mode, Tls};
 pub use judge::{applies, mesh_verdict};
+pub use peer::{PeerAuthentication, PortMode};
 pub use policy::{AuthorizationPolicy, OperationSpec, Rule};
 pub use verdict::{Outcome, Verdict};

@@ -1,0 +1,3 @@
+pub mod Characters
+pub mod Counts
+pub mod Order

@@ -1,0 +1,10 @@
+pub mod Faults
+pub mod Fields
+pub mod Kinds
+pub mod Laws
+pub mod Lists
+pub mod Places
+pub mod Printed
+pub mod Reasons
+pub mod Spots
+pub mod Turns

@@ -1,0 +1,36 @@
+//! What every reader of a JSON document stands on: places, reasons and faults, the checks of kinds and fields, and
+//! the form in which a reader is stated. A reader answers the value of a document, or the first of all its faults
+//! in reading order. `docs/READERS.md` shows how one is written.
+#![tactic(auto)]
+
+mod fault;
+mod fields;
+mod forms;
+mod kinds;
+mod known;
+mod laws;
+mod lists;
+mod maps;
+mod place;
+mod printed;
+mod reason;
+mod spot;
+#[cfg(test)]
+mod tests;
+mod turns;
+
+pub use fault::{DocError, Fault, refuse};
+pub use fields::{field, missing, written};
+pub use forms::{
+    AnyNumber, AnyText, AnyTruth, Form, optional, optional_written, required, required_written,
+};
+pub use kinds::{list, number, object, text, truth};
+pub use known::only_fields;
+pub use laws::reading_order;
+pub use lists::{entries, listed, listed_written};
+pub use maps::{Entry, members};
+pub use place::{Place, Step, below_index, below_key};
+pub use printed::place_text;
+pub use reason::Reason;
+pub use spot::Spot;
+pub use turns::{InTurn, entries_in_turn, listed_in_turn};

@@ -1,0 +1,220 @@
+use super::*;
+use mesh_text::List;
+use serde_json::Value;
+use std::alloc::Global;
+use std::process::Abort;
+
+// A strict object with an optional text `name`, a required number `x`, a list `on` of at most 2 truth values, and an
+// object `more` of numbers.
+fn read_point(alloc: Global, v: &Value, place: &Place) -> Result<(), DocError> {
+    only_fields(alloc, v, "more name on x", place)?;
+    let _name = optional::<AnyText>(alloc, v, "name", place)?;
+    let _x = required::<AnyNumber>(alloc, v, "x", place)?;
+    let _on = listed::<AnyTruth>(alloc, v, "on", 2, place)?;
+    let _more = optional::<Numbers>(alloc, v, "more", place)?;
+    Ok(())
+}
+
+struct Numbers;
+
+impl Form for Numbers {
+    ghost use Rattle.mesh_doc.specs.Kinds.{number_faults, number_in};
+    ghost use Rattle.mesh_doc.specs.Lists.{map_of, map_in};
+
+    type Out = List<u64>;
+
+    ghost faults = { map_of (λ _. number_faults) };
+
+    ghost value = { map_in (λ _. number_in) };
+
+    fn read(alloc: Global, v: &Value, at: &Spot) -> Result<List<u64>, DocError> {
+        members::<NumberEntry>(alloc, v, &at.place(alloc)?)
+    }
+}
+
+struct NumberEntry;
+
+impl Entry for NumberEntry {
+    ghost use Rattle.mesh_doc.specs.Kinds.{number_faults, number_in};
+
+    type Out = u64;
+
+    ghost faults = { λ _. number_faults };
+
+    ghost value = { λ _. number_in };
+
+    fn read(alloc: Global, _key: &str, v: &Value, at: &Spot) -> Result<u64, DocError> {
+        AnyNumber::read(alloc, v, at)
+    }
+}
+
+// A number that no earlier entry is.
+struct Distinct;
+
+impl InTurn for Distinct {
+    ghost use Rattle.std.specs.Prelude.{not, ◌==◌};
+    ghost use Rattle.std.specs.List.{list_any};
+    ghost use Rattle.mesh_doc.specs.Faults.{demands, ◌▸◌};
+    ghost use Rattle.mesh_doc.specs.Kinds.{number_faults, number_in};
+    ghost use Rattle.mesh_doc.specs.declared.reason.Reason.TheVariants.{DuplicateItem};
+
+    type Out = u64;
+
+    ghost faults = { λ earlier. number_faults ▸ demands (λ d. not (list_any (λ n. n == number_in d) earlier)) DuplicateItem };
+
+    ghost value = { number_in };
+
+    fn read(alloc: Global, earlier: &[u64], v: &Value, at: &Spot) -> Result<u64, DocError> {
+        let number = AnyNumber::read(alloc, v, at)?;
+        if earlier.iter().any(|n| *n == number) {
+            return Err(at.refuse(alloc, Reason::DuplicateItem));
+        }
+        Ok(number)
+    }
+}
+
+fn told<T: Drop>(rt: &impl Abort, alloc: Global, outcome: Result<T, DocError>) -> String {
+    match outcome {
+        Ok(_) => format!(in alloc; "ok").expect(rt, "memory"),
+        Err(DocError::Memory) => format!(in alloc; "memory").expect(rt, "memory"),
+        Err(DocError::Fault(fault)) => {
+            let place = place_text(alloc, &fault.place).expect(rt, "memory");
+            format!(in alloc; "{}: {}", place.as_str(), fault.reason.name()).expect(rt, "memory")
+        }
+    }
+}
+
+#[test]
+fn the_first_fault_is_told(rt: HostRuntime) {
+    let whole: Place = List::new(rt.alloc());
+    let spec = below_key(rt.alloc(), &whole, "spec").expect(&rt, "memory");
+    let third = below_index(rt.alloc(), &spec, 2).expect(&rt, "memory");
+    for (text, want) in [
+        (r#"{"x":1}"#, "ok"),
+        (r#"{"x":18446744073709551615}"#, "ok"),
+        (
+            r#"{"name":"a","x":0,"on":[true,false],"more":{"a":1,"b":2}}"#,
+            "ok",
+        ),
+        (r#"{"name":null,"x":1,"on":null,"more":null}"#, "ok"),
+        (r#"{"x":1,"on":[],"more":{}}"#, "ok"),
+        ("[]", "$/spec/2: WrongType"),
+        ("null", "$/spec/2: WrongType"),
+        ("\"x\"", "$/spec/2: WrongType"),
+        ("{}", "$/spec/2/x: MissingField"),
+        (r#"{"x":null}"#, "$/spec/2/x: MissingField"),
+        (r#"{"x":"1"}"#, "$/spec/2/x: WrongType"),
+        (r#"{"x":-1}"#, "$/spec/2/x: WrongType"),
+        (r#"{"x":1.0}"#, "$/spec/2/x: WrongType"),
+        (r#"{"x":8e1}"#, "$/spec/2/x: WrongType"),
+        (r#"{"x":18446744073709551616}"#, "$/spec/2/x: WrongType"),
+        (r#"{"x":1,"y":1}"#, "$/spec/2/y: UnknownField"),
+        (r#"{"x":1,"y":null}"#, "$/spec/2/y: UnknownField"),
+        (r#"{"x":1,"":1}"#, "$/spec/2/: UnknownField"),
+        (r#"{"z":1,"y":1,"name":7}"#, "$/spec/2/y: UnknownField"),
+        (r#"{"x":1,"name x":1}"#, "$/spec/2/name x: UnknownField"),
+        (r#"{"x":1,"nam":1}"#, "$/spec/2/nam: UnknownField"),
+        (
+            r#"{"x":1,"a/b~\u0001\u001f\u007f":1}"#,
+            "$/spec/2/a~1b~0??\u{7f}: UnknownField",
+        ),
+        (
+            "{\"x\":1,\"\u{e9}\u{20ac}\u{1d11e}~1\":1}",
+            "$/spec/2/\u{e9}\u{20ac}\u{1d11e}~01: UnknownField",
+        ),
+        (r#"{"name":7}"#, "$/spec/2/name: WrongType"),
+        (r#"{"name":{},"x":"1"}"#, "$/spec/2/name: WrongType"),
+        (r#"{"x":1,"on":true}"#, "$/spec/2/on: WrongType"),
+        (r#"{"x":1,"on":{}}"#, "$/spec/2/on: WrongType"),
+        (r#"{"x":1,"on":[true,true,true]}"#, "$/spec/2/on: TooMany"),
+        (r#"{"x":1,"on":[1,true,true]}"#, "$/spec/2/on: TooMany"),
+        (r#"{"x":1,"on":[true,"true"]}"#, "$/spec/2/on/1: WrongType"),
+        (r#"{"x":1,"on":[null,0]}"#, "$/spec/2/on/0: WrongType"),
+        (r#"{"x":1,"more":[]}"#, "$/spec/2/more: WrongType"),
+        (
+            r#"{"x":1,"more":{"b":"1","a":null}}"#,
+            "$/spec/2/more/a: WrongType",
+        ),
+        (
+            r#"{"x":1,"more":{"b":"1","a":1}}"#,
+            "$/spec/2/more/b: WrongType",
+        ),
+        (r#"{"x":1,"on":[0],"more":0}"#, "$/spec/2/on/0: WrongType"),
+    ] {
+        let v = Value::from_str(rt.alloc(), text).expect(&rt, "JSON");
+        let outcome = told(&rt, rt.alloc(), read_point(rt.alloc(), &v, &third));
+        assert_eq!(rt; outcome.as_str(), want, "{text}");
+    }
+}
+
+#[test]
+fn each_call_answers_what_it_read(rt: HostRuntime) {
+    let alloc = rt.alloc();
+    let whole: Place = List::new(alloc);
+    let v = Value::from_str(alloc, r#"{"a":"b","l":[1,2,3],"n":7,"t":true,"z":null}"#).expect(
+        &rt, "JSON",
+    );
+    assert!(rt; object(alloc, &v, &whole).is_ok());
+    assert!(rt; only_fields(alloc, &v, "a l n t z", &whole).is_ok());
+    assert!(rt; field(&v, "z").is_none());
+    assert!(rt; field(&v, "b").is_none());
+    assert!(rt; written(&v, "b").is_none());
+    let null = written(&v, "z").expect(&rt, "a field that is null");
+    assert_eq!(rt;
+        told(&rt, rt.alloc(), text(alloc, null, &whole)).as_str(),
+        "$: WrongType"
+    );
+    assert_eq!(rt;
+        told(&rt, rt.alloc(), object(alloc, null, &whole)).as_str(),
+        "$: WrongType"
+    );
+    assert!(rt; field(null, "a").is_none());
+    let a = field(&v, "a").expect(&rt, "a field");
+    assert_eq!(rt; text(alloc, a, &whole).expect(&rt, "a text").as_str(), "b");
+    let n = field(&v, "n").expect(&rt, "a field");
+    assert_eq!(rt; number(alloc, n, &whole).expect(&rt, "a number"), 7);
+    let t = field(&v, "t").expect(&rt, "a field");
+    assert!(rt; truth(alloc, t, &whole).expect(&rt, "a truth value"));
+    let l = field(&v, "l").expect(&rt, "a field");
+    assert_eq!(rt; list(alloc, l, &whole).expect(&rt, "a list"), 3);
+    let numbers = entries::<AnyNumber>(alloc, l, 3, &whole).expect(&rt, "numbers");
+    assert_eq!(rt; numbers.as_slice(), [1, 2, 3].as_slice());
+    let rest = listed_written::<AnyNumber>(alloc, &v, "z", 3, &whole);
+    assert_eq!(rt; told(&rt, rt.alloc(), rest).as_str(), "$/z: WrongType");
+    let rest = optional_written::<AnyText>(alloc, &v, "z", &whole);
+    assert_eq!(rt; told(&rt, rt.alloc(), rest).as_str(), "$/z: WrongType");
+    let rest = required_written::<AnyText>(alloc, &v, "y", &whole);
+    assert_eq!(rt; told(&rt, rt.alloc(), rest).as_str(), "$/y: MissingField");
+    let here = Spot::of(&whole).refuse(alloc, Reason::BadPort);
+    let there = refuse(alloc, &whole, Reason::BadPort);
+    assert!(rt; here == there);
+    let gone: Result<(), DocError> = Err(missing(alloc, "k", &whole));
+    assert_eq!(rt; told(&rt, rt.alloc(), gone).as_str(), "$/k: MissingField");
+    let distinct = entries_in_turn::<Distinct>(alloc, l, 3, &whole).expect(&rt, "numbers");
+    assert_eq!(rt; distinct.as_slice(), [1, 2, 3].as_slice());
+    reading_order();
+}
+
+#[test]
+fn earlier_entries_count(rt: HostRuntime) {
+    let whole: Place = List::new(rt.alloc());
+    for (text, want) in [
+        (r#"{"l":[3,1,2]}"#, "ok"),
+        (r#"{"l":null}"#, "ok"),
+        ("{}", "ok"),
+        (r#"{"l":[1,2,1,2]}"#, "$/l/2: DuplicateItem"),
+        (r#"{"l":[1,1,"1"]}"#, "$/l/1: DuplicateItem"),
+        (r#"{"l":[1,"1",1]}"#, "$/l/1: WrongType"),
+        (r#"{"l":[1,2,3,3]}"#, "$/l/3: DuplicateItem"),
+        (r#"{"l":[1,1,1,1,1]}"#, "$/l: TooMany"),
+        (r#"{"l":{}}"#, "$/l: WrongType"),
+    ] {
+        let v = Value::from_str(rt.alloc(), text).expect(&rt, "JSON");
+        let outcome = told(
+            &rt,
+            rt.alloc(),
+            listed_in_turn::<Distinct>(rt.alloc(), &v, "l", 4, &whole),
+        );
+        assert_eq!(rt; outcome.as_str(), want, "{text}");
+    }
+}

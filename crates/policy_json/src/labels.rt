@@ -1,0 +1,74 @@
+ghost use Rattle.serde_json.specs.View.{view};
+ghost use Rattle.mesh_doc.specs.Faults.{Reads};
+ghost use Rattle.policy_json.specs.Labels.{label_faults, label_in, labels_faults, labels_in, selector_faults, selector_in};
+
+use mesh_doc::{AnyText, DocError, Entry, Form, Place, Spot, members, only_fields, optional};
+use mesh_policy::Label;
+use mesh_text::{List, Text};
+use serde_json::Value;
+use std::alloc::Global;
+
+const SELECTOR_FIELDS: &str = "matchLabels";
+
+const MATCH_LABELS: &str = "matchLabels";
+
+struct LabelEntry;
+
+impl Entry for LabelEntry {
+    type Out = Label;
+
+    ghost faults = { label_faults };
+
+    ghost value = { label_in };
+
+    #[tactic(auto, unfolding(crate::specs::Labels::label_faults, crate::specs::Labels::label_in))]
+    fn read(alloc: Global, key: &str, v: &Value, at: &Spot) -> Result<Label, DocError> {
+        let value = AnyText::read(alloc, v, at)?;
+        Ok(Label {
+            key: Text::of(alloc, key)?,
+            value,
+        })
+    }
+}
+
+/// The labels that an object of texts gives, in byte order of their keys. WrongType at `place` where `v` is no
+/// object, and else WrongType at the first key whose value is no text; a `null` is none.
+#[tactic(auto, unfolding(crate::specs::Labels::labels_faults, crate::specs::Labels::labels_in))]
+pub fn read_labels(alloc: Global, v: &Value, place: &Place) -> Result<List<Label>, DocError>
+    ensures { Reads result (labels_faults (view v.now) place.now) (labels_in (view v.now)) }
+{
+    members::<LabelEntry>(alloc, v, place)
+}
+
+struct Labels;
+
+impl Form for Labels {
+    type Out = List<Label>;
+
+    ghost faults = { labels_faults };
+
+    ghost value = { labels_in };
+
+    fn read(alloc: Global, v: &Value, at: &Spot) -> Result<List<Label>, DocError> {
+        read_labels(alloc, v, &at.place(alloc)?)
+    }
+}
+
+/// The selector of a policy (Istio reference, WorkloadSelector): the labels that a Pod has to have.
+pub(crate) struct Selector;
+
+impl Form for Selector {
+    type Out = List<Label>;
+
+    ghost faults = { selector_faults };
+
+    ghost value = { selector_in };
+
+    #[tactic(auto, unfolding(crate::specs::Labels::selector_faults, crate::specs::Labels::selector_in))]
+    fn read(alloc: Global, v: &Value, at: &Spot) -> Result<List<Label>, DocError> {
+        let place = at.place(alloc)?;
+        only_fields(alloc, v, SELECTOR_FIELDS, &place)?;
+        let labels = optional::<Labels>(alloc, v, MATCH_LABELS, &place)?;
+        Ok(labels.unwrap_or(List::new(alloc)))
+    }
+}

@@ -1,0 +1,11 @@
+//! The readers of policies: each answers the policy that a `spec` means, or the first of its faults in reading order
+//! (Istio reference; docs/FORMATS.md has the forms).
+#![tactic(auto)]
+
+mod labels;
+mod peer;
+#[cfg(test)]
+mod tests;
+
+pub use labels::read_labels;
+pub use peer::read_peer;

@@ -1,3 +1,6 @@
+ghost use Rattle.std.specs.Prelude.{◌≡◌, ◌==◌, not};
+ghost use Rattle.std.specs.List.{list_any};
+
 use super::*;
 use mesh_text::List;
 use serde_json::Value;
@@ -48,12 +51,16 @@ impl Entry for NumberEntry {
     }
 }
 
+fn stands_in(earlier: &[u64], number: u64) -> bool
+    ensures { result ≡ list_any (λ n. n == number) earlier.now }
+{
+    earlier.iter().any(|n| *n == number)
+}
+
 // A number that no earlier entry is.
 struct Distinct;
 
 impl InTurn for Distinct {
-    ghost use Rattle.std.specs.Prelude.{not, ◌==◌};
-    ghost use Rattle.std.specs.List.{list_any};
     ghost use Rattle.mesh_doc.specs.Faults.{demands, ◌▸◌};
     ghost use Rattle.mesh_doc.specs.Kinds.{number_faults, number_in};
     ghost use Rattle.mesh_doc.specs.declared.reason.Reason.TheVariants.{DuplicateItem};
@@ -66,7 +73,7 @@ impl InTurn for Distinct {
 
     fn read(alloc: Global, earlier: &[u64], v: &Value, at: &Spot) -> Result<u64, DocError> {
         let number = AnyNumber::read(alloc, v, at)?;
-        if earlier.iter().any(|n| *n == number) {
+        if stands_in(earlier, number) {
             return Err(at.refuse(alloc, Reason::DuplicateItem));
         }
         Ok(number)
@@ -147,6 +154,72 @@ fn the_first_fault_is_told(rt: HostRuntime) {
     }
 }
 
+fn part<'a>(rt: &impl Abort, v: &'a Value, name: &str) -> &'a Value {
+    field(v, name).expect(rt, "a field")
+}
+
+fn fields_are_found(rt: &impl Abort, v: &Value) {
+    assert!(rt; field(v, "a").is_some());
+    assert!(rt; field(v, "b").is_none());
+    assert!(rt; field(v, "z").is_none());
+    assert!(rt; written(v, "z").is_some());
+    assert!(rt; written(v, "b").is_none());
+    assert!(rt; field(part(rt, v, "a"), "a").is_none());
+}
+
+fn kinds_are_read(rt: &impl Abort, alloc: Global, v: &Value, whole: &Place) {
+    assert!(rt; object(alloc, v, whole).is_ok());
+    assert_eq!(rt;
+        text(alloc, part(rt, v, "a"), whole)
+            .expect(rt, "a text")
+            .as_str(),
+        "b"
+    );
+    assert_eq!(rt;
+        number(alloc, part(rt, v, "n"), whole).expect(rt, "a number"),
+        7
+    );
+    assert_eq!(rt;
+        truth(alloc, part(rt, v, "t"), whole).expect(rt, "a truth value"),
+        true
+    );
+    assert_eq!(rt;
+        list(alloc, part(rt, v, "l"), whole).expect(rt, "a list"),
+        3
+    );
+}
+
+fn entries_are_read(rt: &impl Abort, alloc: Global, v: &Value, whole: &Place) {
+    let numbers = entries::<AnyNumber>(alloc, part(rt, v, "l"), 3, whole).expect(rt, "numbers");
+    assert_eq!(rt; numbers.as_slice(), [1, 2, 3].as_slice());
+    let numbers = entries_in_turn::<Distinct>(alloc, part(rt, v, "l"), 3, whole).expect(
+        rt, "numbers",
+    );
+    assert_eq!(rt; numbers.as_slice(), [1, 2, 3].as_slice());
+}
+
+fn null_is_a_value(rt: &impl Abort, alloc: Global, v: &Value, whole: &Place) {
+    let outcome = told(
+        rt,
+        alloc,
+        listed_written::<AnyNumber>(alloc, v, "z", 3, whole),
+    );
+    assert_eq!(rt; outcome.as_str(), "$/z: WrongType");
+    let outcome = told(rt, alloc, optional_written::<AnyText>(alloc, v, "z", whole));
+    assert_eq!(rt; outcome.as_str(), "$/z: WrongType");
+    let outcome = told(rt, alloc, required_written::<AnyText>(alloc, v, "y", whole));
+    assert_eq!(rt; outcome.as_str(), "$/y: MissingField");
+}
+
+fn faults_are_made(rt: &impl Abort, alloc: Global, whole: &Place) {
+    let here: Result<(), DocError> = Err(refuse(alloc, whole, Reason::BadPort));
+    assert_eq!(rt; told(rt, alloc, here).as_str(), "$: BadPort");
+    let there: Result<(), DocError> = Err(Spot::index(whole, 7).refuse(alloc, Reason::BadTime));
+    assert_eq!(rt; told(rt, alloc, there).as_str(), "$/7: BadTime");
+    let gone: Result<(), DocError> = Err(missing(alloc, "k", whole));
+    assert_eq!(rt; told(rt, alloc, gone).as_str(), "$/k: MissingField");
+}
+
 #[test]
 fn each_call_answers_what_it_read(rt: HostRuntime) {
     let alloc = rt.alloc();
@@ -154,44 +227,11 @@ fn each_call_answers_what_it_read(rt: HostRuntime) {
     let v = Value::from_str(alloc, r#"{"a":"b","l":[1,2,3],"n":7,"t":true,"z":null}"#).expect(
         &rt, "JSON",
     );
-    assert!(rt; object(alloc, &v, &whole).is_ok());
-    assert!(rt; only_fields(alloc, &v, "a l n t z", &whole).is_ok());
-    assert!(rt; field(&v, "z").is_none());
-    assert!(rt; field(&v, "b").is_none());
-    assert!(rt; written(&v, "b").is_none());
-    let null = written(&v, "z").expect(&rt, "a field that is null");
-    assert_eq!(rt;
-        told(&rt, rt.alloc(), text(alloc, null, &whole)).as_str(),
-        "$: WrongType"
-    );
-    assert_eq!(rt;
-        told(&rt, rt.alloc(), object(alloc, null, &whole)).as_str(),
-        "$: WrongType"
-    );
-    assert!(rt; field(null, "a").is_none());
-    let a = field(&v, "a").expect(&rt, "a field");
-    assert_eq!(rt; text(alloc, a, &whole).expect(&rt, "a text").as_str(), "b");
-    let n = field(&v, "n").expect(&rt, "a field");
-    assert_eq!(rt; number(alloc, n, &whole).expect(&rt, "a number"), 7);
-    let t = field(&v, "t").expect(&rt, "a field");
-    assert!(rt; truth(alloc, t, &whole).expect(&rt, "a truth value"));
-    let l = field(&v, "l").expect(&rt, "a field");
-    assert_eq!(rt; list(alloc, l, &whole).expect(&rt, "a list"), 3);
-    let numbers = entries::<AnyNumber>(alloc, l, 3, &whole).expect(&rt, "numbers");
-    assert_eq!(rt; numbers.as_slice(), [1, 2, 3].as_slice());
-    let rest = listed_written::<AnyNumber>(alloc, &v, "z", 3, &whole);
-    assert_eq!(rt; told(&rt, rt.alloc(), rest).as_str(), "$/z: WrongType");
-    let rest = optional_written::<AnyText>(alloc, &v, "z", &whole);
-    assert_eq!(rt; told(&rt, rt.alloc(), rest).as_str(), "$/z: WrongType");
-    let rest = required_written::<AnyText>(alloc, &v, "y", &whole);
-    assert_eq!(rt; told(&rt, rt.alloc(), rest).as_str(), "$/y: MissingField");
-    let here = Spot::of(&whole).refuse(alloc, Reason::BadPort);
-    let there = refuse(alloc, &whole, Reason::BadPort);
-    assert!(rt; here == there);
-    let gone: Result<(), DocError> = Err(missing(alloc, "k", &whole));
-    assert_eq!(rt; told(&rt, rt.alloc(), gone).as_str(), "$/k: MissingField");
-    let distinct = entries_in_turn::<Distinct>(alloc, l, 3, &whole).expect(&rt, "numbers");
-    assert_eq!(rt; distinct.as_slice(), [1, 2, 3].as_slice());
+    fields_are_found(&rt, &v);
+    kinds_are_read(&rt, alloc, &v, &whole);
+    entries_are_read(&rt, alloc, &v, &whole);
+    null_is_a_value(&rt, alloc, &v, &whole);
+    faults_are_made(&rt, alloc, &whole);
     reading_order();
 }
 

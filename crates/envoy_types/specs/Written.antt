@@ -42,15 +42,15 @@ secret name = object (fields ((codes "name", string name) ∷ []))
 abbrev pub tls_secrets : Data
 tls_secrets = object (fields (
     (codes "tls_certificate_sds_secret_configs", array (items_of (secret (codes "default") ∷ [])))
-  ∷ (codes "validation_context_sds_secret_config", secret (codes "ROOTCA"))
-  ∷ []))
+    ∷ (codes "validation_context_sds_secret_config", secret (codes "ROOTCA"))
+    ∷ []))
 
 abbrev pub tls_context : Data
 tls_context = object (fields (
     (codes "@type", string tls_socket_type)
-  ∷ (codes "common_tls_context", tls_secrets)
-  ∷ (codes "require_client_certificate", boolean true)
-  ∷ []))
+    ∷ (codes "common_tls_context", tls_secrets)
+    ∷ (codes "require_client_certificate", boolean true)
+    ∷ []))
 
 abbrev pub tls_socket : Data
 tls_socket = named tls_socket_name tls_context
@@ -64,8 +64,8 @@ principal Any = object (fields ((codes "any", boolean true) ∷ []))
 abbrev pub policy : RbacPolicy → Data
 policy p = object (fields (
     (codes "permissions", array (items_of (map permission p.permissions)))
-  ∷ (codes "principals", array (items_of (map principal p.principals)))
-  ∷ []))
+    ∷ (codes "principals", array (items_of (map principal p.principals)))
+    ∷ []))
 
 -- these members, and the policies by their names
 abbrev pub policies_onto : Members → List RbacPolicy → Members
@@ -96,9 +96,9 @@ network_filter (filter.Rbac rbac) = named network_rbac_name (rbac_config rbac.ru
 abbrev pub tcp_proxy : List ℕ → Data
 tcp_proxy cluster = named tcp_proxy_name (object (fields (
     (codes "@type", string tcp_proxy_type)
-  ∷ (codes "cluster", string cluster)
-  ∷ (codes "stat_prefix", string cluster)
-  ∷ [])))
+    ∷ (codes "cluster", string cluster)
+    ∷ (codes "stat_prefix", string cluster)
+    ∷ [])))
 
 abbrev pub body : ChainBody → Data
 body (Tcp filters cluster) = array (items_of (map network_filter filters ++ tcp_proxy cluster ∷ []))
@@ -128,9 +128,9 @@ with_socket true ms = put (codes "transport_socket") tls_socket ms
 abbrev pub chain : FilterChain → Data
 chain c = object (with_socket c.mutual_tls (fields (
     (codes "filter_chain_match", matching c.matching)
-  ∷ (codes "filters", body c.body)
-  ∷ (codes "name", string c.name)
-  ∷ [])))
+    ∷ (codes "filters", body c.body)
+    ∷ (codes "name", string c.name)
+    ∷ [])))
 
 abbrev pub socket_address : List ℕ → ℕ → Data
 socket_address address port = object (fields ((codes "socket_address", object (fields ((codes "address", string address) ∷ (codes "port_value", number (unsigned port)) ∷ []))) ∷ []))
@@ -138,8 +138,8 @@ socket_address address port = object (fields ((codes "socket_address", object (f
 abbrev pub written : Listener → Data
 written l = object (fields (
     (codes "address", socket_address l.address l.port)
-  ∷ (codes "filter_chains", array (items_of (map chain l.chains)))
-  ∷ (codes "listener_filters", listener_filters)
-  ∷ (codes "name", string l.name)
-  ∷ (codes "traffic_direction", string (codes "INBOUND"))
-  ∷ []))
+    ∷ (codes "filter_chains", array (items_of (map chain l.chains)))
+    ∷ (codes "listener_filters", listener_filters)
+    ∷ (codes "name", string l.name)
+    ∷ (codes "traffic_direction", string (codes "INBOUND"))
+    ∷ []))

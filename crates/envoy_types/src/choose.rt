@@ -37,8 +37,14 @@ fn some_names_port(chains: &[FilterChain], port: u16) -> bool
     chains.iter().any(|chain| names_port(chain, port))
 }
 
-fn some_names_transport(chains: &[FilterChain], port: u16, by_port: bool, transport: Transport) -> bool
-    ensures { result ≡ list_any (prune.names_transport transport) (prune.kept by_port (prune.names_port port) prune.is_any_port chains.now) }
+fn some_names_transport(
+    chains: &[FilterChain],
+    port: u16,
+    by_port: bool,
+    transport: Transport,
+) -> bool
+    ensures { result ≡ list_any (prune.names_transport transport)
+        (prune.kept by_port (prune.names_port port) prune.is_any_port chains.now) }
 {
     chains
         .iter()
@@ -48,7 +54,8 @@ fn some_names_transport(chains: &[FilterChain], port: u16, by_port: bool, transp
 
 // The first name that the client offers and a chain that is left lists.
 fn agreed_name<'a>(chains: &[FilterChain], wanted: Wanted, case: &'a Case) -> Option<&'a Text>
-    ensures { option_copied result ≡ prune.agreed_name (prune.offered case.now.tls) (prune.remaining wanted.port wanted.by_port wanted.transport wanted.by_transport chains.now) }
+    ensures { option_copied result ≡ prune.agreed_name (prune.offered case.now.tls)
+        (prune.remaining wanted.port wanted.by_port wanted.transport wanted.by_transport chains.now) }
 {
     match &case.tls {
         None => None,
@@ -57,13 +64,17 @@ fn agreed_name<'a>(chains: &[FilterChain], wanted: Wanted, case: &'a Case) -> Op
 }
 
 fn first_listed<'a>(chains: &[FilterChain], wanted: Wanted, names: &'a [Text]) -> Option<&'a Text>
-    ensures { option_copied result ≡ prune.agreed_name names.now (prune.remaining wanted.port wanted.by_port wanted.transport wanted.by_transport chains.now) }
+    ensures { option_copied result ≡ prune.agreed_name names.now
+        (prune.remaining wanted.port wanted.by_port wanted.transport wanted.by_transport chains.now) }
 {
-    names.iter().find(|name| some_lists(chains, wanted, name.as_str()))
+    names
+        .iter()
+        .find(|name| some_lists(chains, wanted, name.as_str()))
 }
 
 fn some_lists(chains: &[FilterChain], wanted: Wanted, name: &str) -> bool
-    ensures { result ≡ list_any (prune.lists_name name.now) (prune.remaining wanted.port wanted.by_port wanted.transport wanted.by_transport chains.now) }
+    ensures { result ≡ list_any (prune.lists_name name.now)
+        (prune.remaining wanted.port wanted.by_port wanted.transport wanted.by_transport chains.now) }
 {
     chains
         .iter()
@@ -72,8 +83,13 @@ fn some_lists(chains: &[FilterChain], wanted: Wanted, name: &str) -> bool
         .any(|chain| lists_name(chain, name))
 }
 
-fn first_fitting<'a>(chains: &'a [FilterChain], wanted: Wanted, name: Option<&Text>) -> Option<&'a FilterChain>
-    ensures { option_copied result ≡ find (prune.fits_name (option_copied name.entry)) (prune.remaining wanted.port wanted.by_port wanted.transport wanted.by_transport chains.now) }
+fn first_fitting<'a>(
+    chains: &'a [FilterChain],
+    wanted: Wanted,
+    name: Option<&Text>,
+) -> Option<&'a FilterChain>
+    ensures { option_copied result ≡ find (prune.fits_name (option_copied name.entry))
+        (prune.remaining wanted.port wanted.by_port wanted.transport wanted.by_transport chains.now) }
 {
     chains
         .iter()
@@ -83,7 +99,8 @@ fn first_fitting<'a>(chains: &'a [FilterChain], wanted: Wanted, name: Option<&Te
 }
 
 fn fits_port(chain: &FilterChain, port: u16, by_port: bool) -> bool
-    ensures { result ≡ (if by_port then prune.names_port port chain.now else prune.is_any_port chain.now) }
+    ensures { result ≡ (if by_port then prune.names_port port chain.now
+        else prune.is_any_port chain.now) }
 {
     if by_port {
         names_port(chain, port)
@@ -102,7 +119,8 @@ fn names_port(chain: &FilterChain, port: u16) -> bool
 }
 
 fn fits_transport(chain: &FilterChain, transport: Transport, by_transport: bool) -> bool
-    ensures { result ≡ (if by_transport then prune.names_transport transport chain.now else prune.is_any_transport chain.now) }
+    ensures { result ≡ (if by_transport then prune.names_transport transport chain.now
+        else prune.is_any_transport chain.now) }
 {
     if by_transport {
         names_transport(chain, transport)
@@ -150,5 +168,10 @@ fn fits_name(chain: &FilterChain, name: Option<&Text>) -> bool
 fn lists_name(chain: &FilterChain, name: &str) -> bool
     ensures { result ≡ prune.lists_name name.now chain.now }
 {
-    chain.matching.alpn.as_slice().iter().any(|listed| name == listed.as_str())
+    chain
+        .matching
+        .alpn
+        .as_slice()
+        .iter()
+        .any(|listed| name == listed.as_str())
 }

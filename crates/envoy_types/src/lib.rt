@@ -6,6 +6,8 @@ mod choose;
 mod judge;
 mod listener;
 mod rbac;
+#[cfg(test)]
+mod tests;
 
 pub use judge::envoy_verdict;
 pub use listener::{ChainBody, ChainMatch, FilterChain, Listener, NetworkFilter, Transport};

@@ -41,7 +41,10 @@ pub enum Transport {
 #[derive(Debug, Drop, PartialEq, Eq)]
 pub enum ChainBody {
     /// Filters, and then the TCP proxy to a cluster.
-    Tcp { filters: List<NetworkFilter>, cluster: Text },
+    Tcp {
+        filters: List<NetworkFilter>,
+        cluster: Text,
+    },
 }
 
 /// A network filter before the proxy.

@@ -40,8 +40,8 @@ decimal-fits digits n port h = at (digits && nat_le n 65535) refl h where
 port-fits : (d : Data) (port : ℕ) → port_in d ≡ Some port → nat_le port 65535 ≡ true
 port-fits d port h = through (λ p. nat_le p 65535 ≡ true) (as_str d >>= decimal_of) _ port h
     (λ n read above. let P : ℕ → Type 0 = λ m. nat_le m 65535 ≡ true in
-      subst P (some-same n port ((under (nat_le 1 n) (Some n) port above).1))
-        (through P (as_str d) decimal_of n read (λ text is spelled. decimal-fits (is_decimal text) (spelled_after 0 text) n spelled)))
+    subst P (some-same n port ((under (nat_le 1 n) (Some n) port above).1))
+    (through P (as_str d) decimal_of n read (λ text is spelled. decimal-fits (is_decimal text) (spelled_after 0 text) n spelled)))
 
 -- ---- lists of one entry
 
@@ -58,10 +58,10 @@ operation-sole : (d : Data) (operation : OperationSpec) → operation_of d ≡ S
 operation-sole d operation h =
     let P : OperationSpec → Type 0 = λ o. has_one_port o ≡ true in
     through P (get (codes "ports") d >>= λ v. as_array v >>= sole_of port_in) _ operation ((under _ _ operation h).1)
-      (λ ports read same. subst P (some-same (record { ports = ports }) operation same)
-        (through (λ ps. is_sole (λ port. nat_le port 65535) ps ≡ true) (get (codes "ports") d) _ ports read
-          (λ v is listed. through (λ ps. is_sole (λ port. nat_le port 65535) ps ≡ true) (as_array v) _ ports listed
-            (λ ds array found. sole-of port_in (λ port. nat_le port 65535) ds ports port-fits found))))
+    (λ ports read same. subst P (some-same (record { ports = ports }) operation same)
+    (through (λ ps. is_sole (λ port. nat_le port 65535) ps ≡ true) (get (codes "ports") d) _ ports read
+    (λ v is listed. through (λ ps. is_sole (λ port. nat_le port 65535) ps ≡ true) (as_array v) _ ports listed
+    (λ ds array found. sole-of port_in (λ port. nat_le port 65535) ds ports port-fits found))))
 
 entry-sole : (d : Data) (operation : OperationSpec) → operation_in d ≡ Some operation → has_one_port operation ≡ true
 entry-sole d operation h = through (λ o. has_one_port o ≡ true) (get (codes "operation") d) _ operation ((under _ _ operation h).1)
@@ -71,24 +71,24 @@ rule-sole : (d : Data) (rule : Rule) → rule_in d ≡ Some rule → has_one_ope
 rule-sole d rule h =
     let P : Rule → Type 0 = λ r. has_one_operation r ≡ true in
     through P (get (codes "to") d >>= λ v. as_array v >>= sole_of operation_in) _ rule ((under _ _ rule h).1)
-      (λ operations read same. subst P (some-same (record { operations = operations }) rule same)
-        (through (λ os. is_sole has_one_port os ≡ true) (get (codes "to") d) _ operations read
-          (λ v is listed. through (λ os. is_sole has_one_port os ≡ true) (as_array v) _ operations listed
-            (λ ds array found. sole-of operation_in has_one_port ds operations entry-sole found))))
+    (λ operations read same. subst P (some-same (record { operations = operations }) rule same)
+    (through (λ os. is_sole has_one_port os ≡ true) (get (codes "to") d) _ operations read
+    (λ v is listed. through (λ os. is_sole has_one_port os ≡ true) (as_array v) _ operations listed
+    (λ ds array found. sole-of operation_in has_one_port ds operations entry-sole found))))
 
 all-sole : (ds : Items) (rules : List Rule) → each rule_in ds ≡ Some rules → list_all has_one_operation rules ≡ true
 all-sole no_items rules h = let P : List Rule → Type 0 = λ rs. list_all has_one_operation rs ≡ true in subst P (some-same [] rules h) refl
 all-sole (item d ds) rules h =
     let P : List Rule → Type 0 = λ rs. list_all has_one_operation rs ≡ true in
     through P (rule_in d) _ rules h
-      (λ rule read more. through P (each rule_in ds) _ rules more
-        (λ others rest same. subst P (some-same (rule ∷ others) rules same) (both _ _ (rule-sole d rule read) (all-sole ds others rest))))
+    (λ rule read more. through P (each rule_in ds) _ rules more
+    (λ others rest same. subst P (some-same (rule ∷ others) rules same) (both _ _ (rule-sole d rule read) (all-sole ds others rest))))
 
 few-of : (ds : Items) (rules : List Rule) → rules_of ds ≡ Some rules → (nat_le (length rules) 8 && list_all has_one_operation rules) ≡ true
 few-of ds rules h =
     let P : List Rule → Type 0 = λ rs. (nat_le (length rs) 8 && list_all has_one_operation rs) ≡ true in
     through P (each rule_in ds) _ rules h
-      (λ found read few. subst P (some-same found rules ((under _ _ rules few).1)) (both _ _ ((under _ _ rules few).0) (all-sole ds found read)))
+    (λ found read few. subst P (some-same found rules ((under _ _ rules few).1)) (both _ _ ((under _ _ rules few).0) (all-sole ds found read)))
 
 few-or-none : (o : Option Data) (rules : List Rule) → rules_or_none o ≡ Some rules → (nat_le (length rules) 8 && list_all has_one_operation rules) ≡ true
 few-or-none None rules h =
@@ -102,16 +102,16 @@ policy-few : (metadata spec : Data) (policy : AuthorizationPolicy) → policy_of
 policy-few metadata spec policy h =
     let P : AuthorizationPolicy → Type 0 = λ p. has_few_rules p ≡ true in
     through P (name_in metadata) _ policy ((under _ _ policy h).1)
-      (λ name is next. through P (namespace_in metadata) _ policy next
-        (λ namespace there last. through P (spec_in spec) _ policy last
-          (λ rules read same. subst P (some-same (record { name = name; namespace = namespace; rules = rules }) policy same)
-            (few-or-none (get (codes "rules") spec) rules ((under _ _ rules read).1)))))
+    (λ name is next. through P (namespace_in metadata) _ policy next
+    (λ namespace there last. through P (spec_in spec) _ policy last
+    (λ rules read same. subst P (some-same (record { name = name; namespace = namespace; rules = rules }) policy same)
+    (few-or-none (get (codes "rules") spec) rules ((under _ _ rules read).1)))))
 
 item-few : (d : Data) (policy : AuthorizationPolicy) → policy_in d ≡ Some policy → has_few_rules policy ≡ true
 item-few d policy h =
     let P : AuthorizationPolicy → Type 0 = λ p. has_few_rules p ≡ true in
     through P (get (codes "metadata") d) _ policy ((under _ _ policy h).1)
-      (λ metadata is next. through P (get (codes "spec") d) _ policy next (λ spec there read. policy-few metadata spec policy read))
+    (λ metadata is next. through P (get (codes "spec") d) _ policy next (λ spec there read. policy-few metadata spec policy read))
 
 -- ---- the document
 

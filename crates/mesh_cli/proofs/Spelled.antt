@@ -52,14 +52,14 @@ in-order (policy ∷ policies) h =
 
 port-back : (name : List ℕ) (ports : List ℕ) → is_sole (λ port. nat_le port 65535) ports ≡ true
     → policy_in name (form.policy (record { name = name; permissions = permissions_of (record { ports = ports } ∷ []); principals = Any ∷ [] }))
-      ≡ Some (record { name = name; permissions = permissions_of (record { ports = ports } ∷ []); principals = Any ∷ [] })
+    ≡ Some (record { name = name; permissions = permissions_of (record { ports = ports } ∷ []); principals = Any ∷ [] })
 port-back name [] h = cc
 port-back name (port ∷ []) h = rw (leb-zero port, h) refl
 port-back name (port ∷ (other ∷ ports)) h = cc
 
 rule-back : (name : List ℕ) (operations : List OperationSpec) → is_sole has_one_port operations ≡ true
     → policy_in name (form.policy (record { name = name; permissions = permissions_of operations; principals = Any ∷ [] }))
-      ≡ Some (record { name = name; permissions = permissions_of operations; principals = Any ∷ [] })
+    ≡ Some (record { name = name; permissions = permissions_of operations; principals = Any ∷ [] })
 rule-back name [] h = cc
 rule-back name (operation ∷ []) h = port-back name operation.ports h
 rule-back name (operation ∷ (other ∷ operations)) h = cc
@@ -94,7 +94,7 @@ object-back policies rise back = ap (λ ms. policies_in (object ms)) (in-order p
 
 with-filter : (policies : List RbacPolicy) → policies_in (object (form.policies policies)) ≡ Some policies
     → listener_in (written (listener_with (network.Rbac (record { rules = Some (record { action = Allow; policies = policies }) }) ∷ [])))
-      ≡ Some (listener_with (network.Rbac (record { rules = Some (record { action = Allow; policies = policies }) }) ∷ []))
+    ≡ Some (listener_with (network.Rbac (record { rules = Some (record { action = Allow; policies = policies }) }) ∷ []))
 with-filter policies back = rw back refl
 
 without-filter : listener_in (written (listener_with [])) ≡ Some (listener_with [])
@@ -105,6 +105,7 @@ unfolding built
 spelled bundle pod h = at (list_any (applies pod) bundle.authorization) where
   back : policies_in (object (form.policies (policies_of (filter (applies pod) bundle.authorization)))) ≡ Some (policies_of (filter (applies pod) bundle.authorization))
   back = object-back _ (policies-rise pod bundle.authorization h) (policies-back pod bundle.authorization h)
+
   at : (some_applies : Bool) → let filters = cond some_applies (allow_filter (filter (applies pod) bundle.authorization) ∷ []) [] in
       listener_in (written (listener_with filters)) ≡ Some (listener_with filters)
   at true = with-filter (policies_of (filter (applies pod) bundle.authorization)) back

@@ -96,6 +96,7 @@ unfolding decided
 filters-decide b pod c h = at (list_any (applies pod) b.authorization) where
   few : list_all has_few_rules (filter (applies pod) b.authorization) ≡ true
   few = list_all-filter has_few_rules (applies pod) b.authorization (few-all b.authorization h)
+
   at : (some_applies : Bool) → run_filters c (if some_applies then allow_filter (filter (applies pod) b.authorization) ∷ [] else []) false
       ≡ decided (if some_applies then list_any (mesh.policy_holds c) (filter (applies pod) b.authorization) else true)
   at true = allow-decides c (filter (applies pod) b.authorization) few

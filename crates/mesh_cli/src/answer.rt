@@ -18,9 +18,13 @@ use std::alloc::Global;
 #[tactic(auto, unfolding(crate::specs::Answer::answer_of))]
 pub fn respond(alloc: Global, namespace: &str, name: &str, bytes: &[u8]) -> Result<String, Stop>
     requires { length bytes.now ≤ answer.max_input }
-    ensures ok { IfOk result (λ s. answer.answer_of (pod_at namespace.now name.now) bytes.now ≡ answer.writes (string_bytes s)) }
-    ensures enforces { IfOk result (λ s. (accepted : Accepted (pod_at namespace.now name.now) bytes.now) → Enforces accepted.bundle accepted.pod (string_bytes s)) }
-    ensures err { IfErr result (λ why. answer.Stops why (answer.answer_of (pod_at namespace.now name.now) bytes.now)) }
+    ensures ok { IfOk result (λ s.
+        answer.answer_of (pod_at namespace.now name.now) bytes.now ≡ answer.writes (string_bytes s)) }
+    ensures enforces { IfOk result (λ s.
+        (accepted : Accepted (pod_at namespace.now name.now) bytes.now)
+        → Enforces accepted.bundle accepted.pod (string_bytes s)) }
+    ensures err { IfErr result (λ why.
+        answer.Stops why (answer.answer_of (pod_at namespace.now name.now) bytes.now)) }
 {
     let document = match read_document(alloc, bytes) {
         Ok(document) => document,

@@ -30,38 +30,59 @@ pub fn build(alloc: Global, bundle: &Bundle, pod: &Pod) -> Result<Listener, Memo
 
 fn mutual_chain(alloc: Global, bundle: &Bundle, pod: &Pod) -> Result<FilterChain, Memory>
     requires { IsTrue (meaning.is_buildable bundle.now) }
-    ensures { IfOk result (λ c. c ≡ meaning.chain_of (codes "any-mtls") meaning.mutual_match true (meaning.filters_of bundle.now pod.now)) }
+    ensures { IfOk result (λ c. c ≡ meaning.chain_of (codes "any-mtls") meaning.mutual_match true
+        (meaning.filters_of bundle.now pod.now)) }
 {
     let matching = ChainMatch {
         port: None,
         transport: Some(Transport::Tls),
         alpn: mesh_names(alloc)?,
     };
-    chain(alloc, "any-mtls", matching, true, filters(alloc, bundle, pod)?)
+    chain(
+        alloc,
+        "any-mtls",
+        matching,
+        true,
+        filters(alloc, bundle, pod)?,
+    )
 }
 
 fn plain_chain(alloc: Global, bundle: &Bundle, pod: &Pod) -> Result<FilterChain, Memory>
     requires { IsTrue (meaning.is_buildable bundle.now) }
-    ensures { IfOk result (λ c. c ≡ meaning.chain_of (codes "any-plain") meaning.plain_match false (meaning.filters_of bundle.now pod.now)) }
+    ensures { IfOk result (λ c. c ≡ meaning.chain_of (codes "any-plain") meaning.plain_match false
+        (meaning.filters_of bundle.now pod.now)) }
 {
     let matching = ChainMatch {
         port: None,
         transport: Some(Transport::RawBuffer),
         alpn: List::new(alloc),
     };
-    chain(alloc, "any-plain", matching, false, filters(alloc, bundle, pod)?)
+    chain(
+        alloc,
+        "any-plain",
+        matching,
+        false,
+        filters(alloc, bundle, pod)?,
+    )
 }
 
 fn opaque_chain(alloc: Global, bundle: &Bundle, pod: &Pod) -> Result<FilterChain, Memory>
     requires { IsTrue (meaning.is_buildable bundle.now) }
-    ensures { IfOk result (λ c. c ≡ meaning.chain_of (codes "any-opaque") meaning.opaque_match false (meaning.filters_of bundle.now pod.now)) }
+    ensures { IfOk result (λ c. c ≡ meaning.chain_of (codes "any-opaque") meaning.opaque_match false
+        (meaning.filters_of bundle.now pod.now)) }
 {
     let matching = ChainMatch {
         port: None,
         transport: Some(Transport::Tls),
         alpn: List::new(alloc),
     };
-    chain(alloc, "any-opaque", matching, false, filters(alloc, bundle, pod)?)
+    chain(
+        alloc,
+        "any-opaque",
+        matching,
+        false,
+        filters(alloc, bundle, pod)?,
+    )
 }
 
 // The application protocols by which a sidecar of the mesh makes itself known.

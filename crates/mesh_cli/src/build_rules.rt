@@ -37,7 +37,8 @@ fn sole_filter(
     pod: &Pod,
 ) -> Result<List<NetworkFilter>, Memory>
     requires { IsTrue (meaning.are_buildable policies.now) }
-    ensures { IfOk result (λ fs. fs ≡ meaning.allow_filter (filter (apply.applies pod.now) policies.now) ∷ []) }
+    ensures { IfOk result (λ fs.
+        fs ≡ meaning.allow_filter (filter (apply.applies pod.now) policies.now) ∷ []) }
 {
     let mut filters = List::new(alloc);
     filters.push(allow_filter(alloc, policies, pod)?)?;
@@ -81,7 +82,8 @@ fn push_if_applies(
     pod: &Pod,
     policy: &AuthorizationPolicy,
 ) -> Result<(), Memory>
-    ensures { OnOk result (found.new ≡ found.old ++ (if apply.applies pod.now policy.now then meaning.rule_policies policy.now 0 policy.now.rules else [])) }
+    ensures { OnOk result (found.new ≡ found.old ++ (if apply.applies pod.now policy.now
+        then meaning.rule_policies policy.now 0 policy.now.rules else [])) }
 {
     if applies(pod, policy) {
         push_rules(alloc, found, policy)
@@ -142,7 +144,10 @@ fn permissions(alloc: Global, rule: &Rule) -> Result<List<PermissionLeaf>, Memor
     Ok(permissions)
 }
 
-fn push_ports(permissions: &mut List<PermissionLeaf>, operation: &OperationSpec) -> Result<(), Memory>
+fn push_ports(
+    permissions: &mut List<PermissionLeaf>,
+    operation: &OperationSpec,
+) -> Result<(), Memory>
     ensures { OnOk result (permissions.new ≡ permissions.old ++ map DestinationPort operation.now.ports) }
 {
     for port in operation.ports.as_slice() {

@@ -59,7 +59,8 @@ fn read_one(alloc: Global, first: &Value) -> Result<Bundle, Unread>
 }
 
 fn read_two(alloc: Global, first: &Value, second: &Value) -> Result<Bundle, Unread>
-    ensures { GivesAt result (form.with_policy (form.pod_in (view first.now)) (form.policy_in (view second.now))) }
+    ensures { GivesAt result
+        (form.with_policy (form.pod_in (view first.now)) (form.policy_in (view second.now))) }
 {
     let pod = match read_pod(alloc, first) {
         Ok(pod) => pod,
@@ -75,7 +76,10 @@ fn read_two(alloc: Global, first: &Value, second: &Value) -> Result<Bundle, Unre
     pods.push(pod)?;
     let mut authorization = List::new(alloc);
     authorization.push(policy)?;
-    Ok(Bundle { pods, authorization })
+    Ok(Bundle {
+        pods,
+        authorization,
+    })
 }
 
 fn read_pod(alloc: Global, item: &Value) -> Result<Pod, Misfit>

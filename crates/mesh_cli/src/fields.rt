@@ -73,7 +73,8 @@ pub fn is_kind(item: &Value, version: &str, kind: &str) -> bool
 
 /// The entries of a field that is a list; None where it is absent or something else.
 pub fn entries_at<'a>(value: &'a Value, name: &str) -> Option<&'a [Value]>
-    ensures { option_map (λ s. items_view s.now) result ≡ option_and_then as_array (get name.now (view value.now)) }
+    ensures { option_map (λ s. items_view s.now) result
+        ≡ option_and_then as_array (get name.now (view value.now)) }
 {
     match value.get(name) {
         Some(Value::Array(entries)) => Some(entries.as_slice()),

@@ -13,6 +13,8 @@ mod print;
 mod print_filters;
 mod program;
 mod refusal;
+#[cfg(test)]
+mod tests;
 mod text;
 mod words;
 

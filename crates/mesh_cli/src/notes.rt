@@ -14,14 +14,16 @@ pub const USAGE: &str =
 
 /// Says a line. That the notes fail has no effect.
 pub fn say<E: Sink>(notes: &mut E, line: &str)
-    ensures { Notes (E.faults notes.old) (E.faults notes.new) (E.taken notes.old) (E.taken notes.new) line.now }
+    ensures { Notes (E.faults notes.old) (E.faults notes.new) (E.taken notes.old) (E.taken notes.new)
+        line.now }
 {
     let _ = write_all(notes, line.as_bytes());
 }
 
 /// Says why an input is refused.
 pub fn say_refusal<E: Sink>(notes: &mut E, namespace: &str, name: &str, why: Refusal)
-    ensures { Notes (E.faults notes.old) (E.faults notes.new) (E.taken notes.old) (E.taken notes.new) (refusal_line (pod_at namespace.now name.now) why) }
+    ensures { Notes (E.faults notes.old) (E.faults notes.new) (E.taken notes.old) (E.taken notes.new)
+        (refusal_line (pod_at namespace.now name.now) why) }
 {
     match why {
         Refusal::TooLong => say(notes, "refused: input: TooLong\n"),
@@ -34,7 +36,8 @@ pub fn say_refusal<E: Sink>(notes: &mut E, namespace: &str, name: &str, why: Ref
 }
 
 fn say_no_workload<E: Sink>(notes: &mut E, namespace: &str, name: &str)
-    ensures { Notes (E.faults notes.old) (E.faults notes.new) (E.taken notes.old) (E.taken notes.new) (refusal_line (pod_at namespace.now name.now) NoWorkload) }
+    ensures { Notes (E.faults notes.old) (E.faults notes.new) (E.taken notes.old) (E.taken notes.new)
+        (refusal_line (pod_at namespace.now name.now) NoWorkload) }
 {
     let _ = write_five(
         notes,

@@ -24,10 +24,12 @@ pub fn write_three<S: Sink>(
     second: &[u8],
     third: &[u8],
 ) -> Result<(), WriteFault>
-    ensures ok { OnOk result (Appends (S.taken sink.old) (S.taken sink.new) (first.now ++ second.now ++ third.now)) }
+    ensures ok { OnOk result (Appends (S.taken sink.old) (S.taken sink.new)
+        (first.now ++ second.now ++ third.now)) }
     ensures fault { OnErr result (Rose (S.faults sink.old) (S.faults sink.new)) }
     ensures later { S.faults sink.old ≤ S.faults sink.new }
-    ensures front { TakesFront (S.taken sink.old) (S.taken sink.new) (first.now ++ second.now ++ third.now) }
+    ensures front { TakesFront (S.taken sink.old) (S.taken sink.new)
+        (first.now ++ second.now ++ third.now) }
 {
     write_two(sink, first, second)?;
     write_all(sink, third)

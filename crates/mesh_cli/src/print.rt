@@ -84,8 +84,13 @@ fn text_value(alloc: Global, text: &Text) -> Result<Value, Memory>
     Ok(Value::String(String::from_str(alloc, text.as_str())?))
 }
 
-fn put_socket(alloc: Global, fields: &mut Map<String, Value>, mutual_tls: bool) -> Result<(), Memory>
-    ensures { OnOk result (members_view fields.new.entries ≡ form.with_socket mutual_tls (members_view fields.old.entries)) }
+fn put_socket(
+    alloc: Global,
+    fields: &mut Map<String, Value>,
+    mutual_tls: bool,
+) -> Result<(), Memory>
+    ensures { OnOk result (members_view fields.new.entries
+        ≡ form.with_socket mutual_tls (members_view fields.old.entries)) }
 {
     if mutual_tls {
         let socket = tls_socket(alloc)?;
@@ -106,12 +111,18 @@ fn tls_socket(alloc: Global) -> Result<Value, Memory>
 fn tls_context(alloc: Global) -> Result<Value, Memory>
     ensures { IfOk result (λ v. view v ≡ form.tls_context) }
 {
-    let type_name = json!(in alloc; "type.googleapis.com/envoy.extensions.transport_sockets.tls.v3.DownstreamTlsContext")?;
+    let type_name =
+        json!(in alloc; "type.googleapis.com/envoy.extensions.transport_sockets.tls.v3.DownstreamTlsContext")?;
     let secrets = tls_secrets(alloc)?;
     let mut fields = Map::new(alloc);
     serde_json::put(&mut fields, alloc, "@type", type_name)?;
     serde_json::put(&mut fields, alloc, "common_tls_context", secrets)?;
-    serde_json::put(&mut fields, alloc, "require_client_certificate", Value::Bool(true))?;
+    serde_json::put(
+        &mut fields,
+        alloc,
+        "require_client_certificate",
+        Value::Bool(true),
+    )?;
     Ok(Value::Object(fields))
 }
 
@@ -139,7 +150,8 @@ fn put_transport(
     fields: &mut Map<String, Value>,
     transport: Option<Transport>,
 ) -> Result<(), Memory>
-    ensures { OnOk result (members_view fields.new.entries ≡ form.with_transport transport (members_view fields.old.entries)) }
+    ensures { OnOk result (members_view fields.new.entries
+        ≡ form.with_transport transport (members_view fields.old.entries)) }
 {
     match transport {
         None => Ok(()),
@@ -156,12 +168,9 @@ fn put_transport(
     }
 }
 
-fn put_port(
-    alloc: Global,
-    fields: &mut Map<String, Value>,
-    port: Option<u16>,
-) -> Result<(), Memory>
-    ensures { OnOk result (members_view fields.new.entries ≡ form.with_port port (members_view fields.old.entries)) }
+fn put_port(alloc: Global, fields: &mut Map<String, Value>, port: Option<u16>) -> Result<(), Memory>
+    ensures { OnOk result (members_view fields.new.entries
+        ≡ form.with_port port (members_view fields.old.entries)) }
 {
     match port {
         None => Ok(()),
@@ -174,7 +183,8 @@ fn put_port(
 }
 
 fn put_names(alloc: Global, fields: &mut Map<String, Value>, names: &[Text]) -> Result<(), Memory>
-    ensures { OnOk result (members_view fields.new.entries ≡ form.with_names names.now (members_view fields.old.entries)) }
+    ensures { OnOk result (members_view fields.new.entries
+        ≡ form.with_names names.now (members_view fields.old.entries)) }
 {
     if names.is_empty() {
         Ok(())

@@ -23,7 +23,8 @@ pub fn body_value(alloc: Global, body: &ChainBody) -> Result<Value, Memory>
 }
 
 fn tcp_filters(alloc: Global, filters: &[NetworkFilter], cluster: &str) -> Result<Value, Memory>
-    ensures { IfOk result (λ v. view v ≡ array (items_of (map form.network_filter filters.now ++ form.tcp_proxy cluster.now ∷ []))) }
+    ensures { IfOk result (λ v. view v
+        ≡ array (items_of (map form.network_filter filters.now ++ form.tcp_proxy cluster.now ∷ []))) }
 {
     let mut values = Vec::new(alloc);
     for filter in filters {
@@ -62,7 +63,8 @@ fn filter_value(alloc: Global, filter: &NetworkFilter) -> Result<Value, Memory>
 fn rbac_config(alloc: Global, rules: Option<&RbacRules>) -> Result<Value, Memory>
     ensures { IfOk result (λ v. view v ≡ form.rbac_config (option_copied rules.entry)) }
 {
-    let type_name = json!(in alloc; "type.googleapis.com/envoy.extensions.filters.network.rbac.v3.RBAC")?;
+    let type_name =
+        json!(in alloc; "type.googleapis.com/envoy.extensions.filters.network.rbac.v3.RBAC")?;
     let prefix = json!(in alloc; "tcp.")?;
     let mut fields = Map::new(alloc);
     serde_json::put(&mut fields, alloc, "@type", type_name)?;
@@ -76,7 +78,8 @@ fn put_rules(
     fields: &mut Map<String, Value>,
     rules: Option<&RbacRules>,
 ) -> Result<(), Memory>
-    ensures { OnOk result (members_view fields.new.entries ≡ form.with_rules (option_copied rules.entry) (members_view fields.old.entries)) }
+    ensures { OnOk result (members_view fields.new.entries
+        ≡ form.with_rules (option_copied rules.entry) (members_view fields.old.entries)) }
 {
     match rules {
         None => Ok(()),

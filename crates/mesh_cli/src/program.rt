@@ -58,8 +58,8 @@ pub fn run<I: Source, O: Sink, E: Sink>(
         → I.left input.old ≡ Some bytes → length bytes ≤ max_input
         → (accepted : Accepted name bytes)
         → Serves result accepted.bundle accepted.pod (I.left input.new)
-            (O.taken output.old) (O.taken output.new) (O.flushed output.new)
-            (I.faults input.old) (I.faults input.new) (O.faults output.old) (O.faults output.new) }
+        (O.taken output.old) (O.taken output.new) (O.flushed output.new)
+        (I.faults input.old) (I.faults input.new) (O.faults output.old) (O.faults output.new) }
     ensures memory { result ≡ Status.Memory → IsMemory (I.left input.old) (I.left input.new)
         (O.taken output.old) (O.taken output.new)
         (E.faults notes.old) (E.faults notes.new) (E.taken notes.old) (E.taken notes.new) }
@@ -107,10 +107,14 @@ fn answer_input<I: Source>(
     name: &str,
     input: &mut I,
 ) -> Result<String, InputStop>
-    ensures ok { IfOk result (λ s. Answers (pod_at namespace.now name.now) (I.left input.old) (I.left input.new) (writes (string_bytes s))) }
+    ensures ok { IfOk result (λ s. Answers (pod_at namespace.now name.now)
+        (I.left input.old) (I.left input.new) (writes (string_bytes s))) }
     ensures at_end { OnOk result (IsAtEnd (I.left input.new)) }
-    ensures enforces { IfOk result (λ s. (bytes : List ℕ) → I.left input.old ≡ Some bytes → (accepted : Accepted (pod_at namespace.now name.now) bytes) → Enforces accepted.bundle accepted.pod (string_bytes s)) }
-    ensures err { IfErr result (λ why. StopsInput (pod_at namespace.now name.now) (I.left input.old) (I.left input.new) (I.faults input.old) (I.faults input.new) why) }
+    ensures enforces { IfOk result (λ s. (bytes : List ℕ) → I.left input.old ≡ Some bytes
+        → (accepted : Accepted (pod_at namespace.now name.now) bytes)
+        → Enforces accepted.bundle accepted.pod (string_bytes s)) }
+    ensures err { IfErr result (λ why. StopsInput (pod_at namespace.now name.now)
+        (I.left input.old) (I.left input.new) (I.faults input.old) (I.faults input.new) why) }
 {
     let bytes = match read_all(alloc, input, MAX_INPUT) {
         Ok(bytes) => bytes,

@@ -20,7 +20,9 @@ pub fn mesh_verdict(bundle: &Bundle, pod: &Pod, case: &Case) -> Verdict
 }
 
 fn outcome(bundle: &Bundle, pod: &Pod, case: &Case) -> Outcome
-    ensures { result ≡ meaning.outcome_of (connection.passage (meaning.mode_at bundle.now pod.now case.now.port) case.now.tls) (meaning.judged bundle.now pod.now case.now) }
+    ensures { result ≡ meaning.outcome_of
+        (connection.passage (meaning.mode_at bundle.now pod.now case.now.port) case.now.tls)
+        (meaning.judged bundle.now pod.now case.now) }
 {
     let judged = judged(bundle, pod, case);
     match &case.tls {

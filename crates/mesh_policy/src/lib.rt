@@ -7,6 +7,8 @@ mod case;
 mod judge;
 mod peer;
 mod policy;
+#[cfg(test)]
+mod tests;
 mod verdict;
 
 pub use bundle::{Bundle, Label, Pod};

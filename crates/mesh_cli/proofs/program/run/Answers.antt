@@ -12,7 +12,7 @@ pub returns-in-Err-Refused-clause-headline : goal.returns-in-Err-Refused-clause-
 returns-in-Err-Refused-clause-headline g c = λ name bytes also told fits accepted.
     let command : command_of (map string_bytes c.args.words.now.items) ≡ Some (pod_at c.in-Some.namespace.now c.in-Some.name.now) = rw (← c.as_slice.ensures.value) (sym c.in-Some.ensures) in
     not-refused (map string_bytes c.args.words.now.items) (g.I.Source.left c.args.input.now) (g.I.Source.left c.answer_input.new.input) (pod_at c.in-Some.namespace.now c.in-Some.name.now) name bytes c.in-Err-Refused.why
-      command (rw c.in-Err-Refused.field-0-is at c.in-Err-Refused.ensures.err) also told fits accepted
+    command (rw c.in-Err-Refused.field-0-is at c.in-Err-Refused.ensures.err) also told fits accepted
 
 pub returns-in-Ok-deliver-clause-headline : goal.returns-in-Ok-deliver-clause-headline
 returns-in-Ok-deliver-clause-headline g c = λ name bytes also told fits accepted.

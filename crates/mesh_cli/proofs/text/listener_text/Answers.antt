@@ -22,5 +22,5 @@ returns-clause-enforces c =
     let value : view c.in_ok-value.value ≡ written (built c.args.bundle.now c.args.pod.now) = c.in_ok-value.ensures ∙ ap written c.in_ok-listener.ensures in
     let P : Data → Type 0 = λ d. depth d ≤ 127 in
     enforced c.args.bundle.now c.args.pod.now (string_bytes c.in_ok-text.text) c.requires
-      (ap is_utf8 (sym c.as_str-bytes.ensures.value) ∙ is_utf8-from_IsUtf8 _ c.as_str-bytes.utf8)
-      (c.in_ok-text.ensures.reads_back (subst P (sym value) (shallow c.args.bundle.now c.args.pod.now c.requires)) ∙ ap (λ d. Some d) value)
+    (ap is_utf8 (sym c.as_str-bytes.ensures.value) ∙ is_utf8-from_IsUtf8 _ c.as_str-bytes.utf8)
+    (c.in_ok-text.ensures.reads_back (subst P (sym value) (shallow c.args.bundle.now c.args.pod.now c.requires)) ∙ ap (λ d. Some d) value)

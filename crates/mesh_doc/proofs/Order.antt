@@ -1,6 +1,6 @@
 -- The first fault along the parts is the first of all.
-use Rattle.std.proofs.Common.{◌≡◌, List, [], ◌∷◌, ◌++◌, refl, sym, ◌∙◌, ap₂}
-use Rattle.mesh_doc.specs.Faults.{Faults, none, single, joined, hiding, all_of, shown_behind, first, or_else}
+use Rattle.std.proofs.Common.{◌≡◌, List, [], ◌∷◌, refl, sym, ◌∙◌, ap₂}
+use Rattle.mesh_doc.specs.Faults.{none, single, joined, hiding, all_of, shown_behind, or_else}
 use Rattle.mesh_doc.specs.Laws.{first_in, FirstOfJoined, FirstOfAll, NoneOfEmpty}
 use Rattle.mesh_doc.specs.declared.fault.Fault.{Fault}
 

@@ -1,6 +1,6 @@
 -- The kinds of JSON values (RFC 8259 section 3). A value of another kind than its form asks is WrongType at it.
-use Rattle.std.specs.Prelude.{ℕ, Bool, true, false, List, [], Option, is_some, unwrap_or, option_and_then}
-use Rattle.serde_json.specs.Data.{Data, null, boolean, number, string, array, object, Items, no_items, Members, no_members}
+use Rattle.std.specs.Prelude.{ℕ, Bool, false, List, [], Option, is_some, unwrap_or, option_and_then}
+use Rattle.serde_json.specs.Data.{Data, Items, no_items, Members, no_members}
 use Rattle.serde_json.specs.Events.{items_len}
 use Rattle.serde_json.specs.Find.{as_bool, as_number, as_str, as_array, as_object, as_u64}
 use Rattle.mesh_doc.specs.Faults.{Check, demands}

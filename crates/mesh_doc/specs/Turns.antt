@@ -5,7 +5,6 @@ use Rattle.serde_json.specs.Events.{items_len}
 use Rattle.mesh_doc.specs.Faults.{Check, Faults, none, joined, hiding, ◌▸◌, unless}
 use Rattle.mesh_doc.specs.Fields.{optional}
 use Rattle.mesh_doc.specs.Kinds.{items_of, list_faults}
-use Rattle.mesh_doc.specs.Lists.{each_in, list_in, listed_in}
 use Rattle.mesh_doc.specs.Places.{Steps, at_index}
 use Rattle.mesh_doc.specs.declared.reason.Reason.TheVariants.{TooMany}
 

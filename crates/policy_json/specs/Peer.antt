@@ -1,8 +1,8 @@
 -- The `spec` of a PeerAuthentication (Istio reference, PeerAuthentication).
-use Rattle.std.specs.Prelude.{ℕ, ◌<◌, Bool, ◌==◌, List, [], Option, Some, None, is_some, unwrap_or, option_and_then, if◌then◌else◌}
+use Rattle.std.specs.Prelude.{ℕ, ◌==◌, List, [], Option, Some, None, is_some, unwrap_or, option_and_then, if◌then◌else◌}
 use Rattle.std.specs.Str.{bytes_eq}
 use Rattle.serde_json.specs.Data.{Data, null, boolean, number, string, array, object, no_members}
-use Rattle.mesh_doc.specs.Faults.{Check, ◌⨾◌, ◌▸◌, demands, unless}
+use Rattle.mesh_doc.specs.Faults.{Check, ◌⨾◌, ◌▸◌, demands}
 use Rattle.mesh_doc.specs.Fields.{strict, optional, optional_in}
 use Rattle.mesh_doc.specs.Kinds.{text_faults, text_in}
 use Rattle.mesh_doc.specs.Lists.{map_of, map_in}

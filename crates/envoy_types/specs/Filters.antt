@@ -1,6 +1,6 @@
 -- What the network filters of a chain decide (Envoy reference, "Role Based Access Control (RBAC) Network
 -- Filter" and `config.rbac.v3.RBAC`).
-use Rattle.std.specs.Prelude.{ℕ, ◌==◌, Bool, true, false, not, ◌&&◌, ◌||◌, List, [], ◌∷◌, Option, Some, None, is_some, find, if◌then◌else◌}
+use Rattle.std.specs.Prelude.{◌==◌, Bool, true, false, not, ◌&&◌, ◌||◌, List, [], ◌∷◌, Option, Some, None, is_some, find, if◌then◌else◌}
 use Rattle.std.specs.List.{list_any}
 use Rattle.mesh_policy.specs.declared.case.Case.{Case}
 use Rattle.envoy_types.specs.declared.listener.NetworkFilter.{NetworkFilter}
@@ -9,7 +9,6 @@ use Rattle.envoy_types.specs.declared.rbac.PermissionLeaf.{PermissionLeaf}
 use Rattle.envoy_types.specs.declared.rbac.PermissionLeaf.TheVariants.{DestinationPort}
 use Rattle.envoy_types.specs.declared.rbac.Principal.{Principal}
 use Rattle.envoy_types.specs.declared.rbac.Principal.TheVariants.{Any}
-use Rattle.envoy_types.specs.declared.rbac.Rbac.{Rbac}
 use Rattle.envoy_types.specs.declared.rbac.RbacAction.{RbacAction}
 use Rattle.envoy_types.specs.declared.rbac.RbacAction.TheVariants.{Allow, Deny, Log}
 use Rattle.envoy_types.specs.declared.rbac.RbacPolicy.{RbacPolicy}

@@ -1,5 +1,5 @@
 -- Which chain a connection goes to (Envoy reference, `config.listener.v3.FilterChainMatch`).
-use Rattle.std.specs.Prelude.{ℕ, ◌==◌, Bool, true, false, List, [], ◌∷◌, length, Option, Some, None, filter, find, is_none, if◌then◌else◌}
+use Rattle.std.specs.Prelude.{ℕ, ◌==◌, Bool, true, false, List, [], length, Option, Some, None, filter, find, is_none, if◌then◌else◌}
 use Rattle.std.specs.List.{list_any}
 use Rattle.std.specs.Str.{bytes_eq}
 use Rattle.mesh_policy.specs.declared.case.Case.{Case}

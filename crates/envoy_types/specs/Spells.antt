@@ -18,11 +18,10 @@ use Rattle.envoy_types.specs.declared.rbac.PermissionLeaf.{PermissionLeaf}
 use Rattle.envoy_types.specs.declared.rbac.PermissionLeaf.TheVariants.{DestinationPort}
 use Rattle.envoy_types.specs.declared.rbac.Principal.{Principal}
 use Rattle.envoy_types.specs.declared.rbac.Principal.TheVariants.{Any}
-use Rattle.envoy_types.specs.declared.rbac.Rbac.{Rbac}
 use Rattle.envoy_types.specs.declared.rbac.RbacAction.{RbacAction}
 use Rattle.envoy_types.specs.declared.rbac.RbacAction.TheVariants.{Allow, Deny, Log}
 use Rattle.envoy_types.specs.declared.rbac.RbacPolicy.{RbacPolicy}
-use Rattle.envoy_types.specs.Fields.{◌>>=◌, only_when, has_only, has, says, is_true, passes, is_sole, is_pair, number_within, each, list_of, field, field_or}
+use Rattle.envoy_types.specs.Fields.{◌>>=◌, only_when, has_only, has, says, is_true, is_sole, is_pair, number_within, list_of, field, field_or}
 use Rattle.envoy_types.specs.Names.{original_dst_name, original_dst_type, tls_inspector_name, tls_inspector_type, tls_socket_name, tls_socket_type, tcp_proxy_name, tcp_proxy_type, network_rbac_name, network_rbac_type}
 use Rattle.envoy_types.specs.Prune.{same_transport}
 use Rattle.envoy_types.specs.Rules.{Rules, names_rise}

@@ -1,6 +1,6 @@
 -- Manifests that are read have a listener: at most one policy, of few rules with one port each.
-use Rattle.std.proofs.Common.{◌≡◌, ℕ, ◌≤◌, Bool, true, false, cond, ◌&&◌, List, [], ◌∷◌, length, Option, Some, None, Result, Ok, Err, nat_le, refl, sym, subst, ap}
-use Rattle.std.specs.Prelude.{codes, option_and_then}
+use Rattle.std.proofs.Common.{◌≡◌, ℕ, Bool, true, false, cond, ◌&&◌, List, [], ◌∷◌, length, Option, Some, None, Ok, Err, nat_le, refl, subst}
+use Rattle.std.specs.Prelude.{codes}
 use Rattle.std.specs.List.{list_all}
 use Rattle.serde_json.specs.Data.{Data, Items, no_items, item}
 use Rattle.serde_json.specs.Find.{get, as_str, as_array}
@@ -11,11 +11,10 @@ use Rattle.mesh_policy.specs.declared.policy.AuthorizationPolicy.{AuthorizationP
 use Rattle.mesh_policy.specs.declared.policy.OperationSpec.{OperationSpec}
 use Rattle.mesh_policy.specs.declared.policy.Rule.{Rule}
 use Rattle.envoy_types.specs.Fields.{only_when, each, says, ◌>>=◌}
-use Rattle.mesh_cli.specs.declared.refusal.Spot.{Spot}
 use Rattle.mesh_cli.specs.declared.refusal.Spot.TheVariants.{Document}
 use Rattle.mesh_cli.specs.Built.{is_buildable, has_few_rules, has_one_operation, has_one_port, is_sole}
 use Rattle.mesh_cli.specs.Document.{bundle_of, bundle_of_items, with_policy, without_policy, pod_in, policy_in, policy_of, name_in, namespace_in, spec_in, rules_or_none, rules_of, rule_in, operation_in, operation_of, port_in, sole_of}
-use Rattle.mesh_cli.proofs.Booleans.{both, left_of, right_of, some-same}
+use Rattle.mesh_cli.proofs.Booleans.{both, right_of, some-same}
 
 -- ---- what a reading that gave a value went through
 

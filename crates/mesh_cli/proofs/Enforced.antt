@@ -1,5 +1,5 @@
 -- The text of the listener that is built enforces the policies.
-use Rattle.std.proofs.Common.{◌≡◌, ℕ, Bool, true, cond, List, Option, Some, None, sym, ◌∙◌, ap}
+use Rattle.std.proofs.Common.{◌≡◌, ℕ, Bool, true, cond, List, Some, None, sym, ◌∙◌, ap}
 use Rattle.std.specs.Str.{is_utf8}
 use Rattle.serde_json.specs.Read.{read}
 use Rattle.mesh_policy.specs.declared.bundle.Bundle.{Bundle}

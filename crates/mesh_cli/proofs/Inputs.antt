@@ -1,11 +1,11 @@
 -- What is known of an input by what was read of it.
-use Rattle.std.proofs.Common.{◌≡◌, ℕ, ◌+◌, ◌<◌, ◌≤◌, Bool, true, false, cond, List, [], ◌++◌, length, nat_lt, Option, Some, None, IfSome, refl, sym, ◌∙◌, ap, arith}
+use Rattle.std.proofs.Common.{◌≡◌, ℕ, ◌+◌, ◌<◌, Bool, cond, List, ◌++◌, length, Option, Some, None, IfSome, refl, sym, ◌∙◌, ap, arith}
 use Rattle.std.proofs.lemmas.Bool.{lt-ltb}
 use Rattle.std.proofs.lemmas.List.{append-nil, length-append}
 use Rattle.std.specs.Io.KnownBytes.{Consumes, IsAtEnd, Keeps}
 use Rattle.mesh_edge.specs.Progress.{TakesCount}
 use Rattle.mesh_cli.specs.declared.refusal.Refusal.TheVariants.{TooLong}
-use Rattle.mesh_cli.specs.Answer.{Answer, refuses, answer_of, answer_to, document_of, max_input}
+use Rattle.mesh_cli.specs.Answer.{refuses, answer_of, answer_to, document_of, max_input}
 use Rattle.mesh_cli.specs.Command.{PodName}
 use Rattle.mesh_cli.specs.Ends.{Answers}
 

@@ -3,7 +3,7 @@ use Rattle.std.proofs.Common.{◌≡◌, ℕ, ◌<◌, ◌≤◌, Bool, true, fa
 use Rattle.std.proofs.lemmas.Bool.{ltb-true}
 use Rattle.mesh_cli.specs.declared.refusal.Refusal.{Refusal}
 use Rattle.mesh_cli.specs.declared.refusal.Refusal.TheVariants.{TooLong}
-use Rattle.mesh_cli.specs.Answer.{Answer, writes, refuses, answer_of, answer_to, answer_from, answer_for, document_of, listener_text, max_input}
+use Rattle.mesh_cli.specs.Answer.{writes, refuses, answer_of, answer_to, answer_from, answer_for, document_of, listener_text, max_input}
 use Rattle.mesh_cli.specs.Command.{PodName, command_of}
 use Rattle.mesh_cli.specs.Ends.{Answers}
 use Rattle.mesh_cli.specs.Headline.{Accepted}

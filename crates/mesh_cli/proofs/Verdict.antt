@@ -1,5 +1,5 @@
 -- The listener that is built gives each connection the verdict of the policies.
-use Rattle.std.proofs.Common.{◌≡◌, ℕ, ◌+◌, ◌==◌, ◌≤◌, Bool, true, false, cond, not, ◌&&◌, ◌||◌, List, [], ◌∷◌, ◌++◌, length, codes, filter, find, map, Option, Some, None, is_some, nat_le, if◌then◌else◌, refl, sym, ◌∙◌, ap, arith}
+use Rattle.std.proofs.Common.{◌≡◌, ℕ, ◌+◌, ◌==◌, Bool, true, false, cond, ◌&&◌, ◌||◌, List, [], ◌∷◌, codes, filter, find, Option, Some, None, is_some, nat_le, if◌then◌else◌, refl, ◌∙◌, ap}
 use Rattle.std.specs.List.{list_any, list_all}
 use Rattle.std.proofs.lemmas.List.Folds.{list_any-append}
 use Rattle.mesh_policy.specs.declared.bundle.Bundle.{Bundle}
@@ -9,7 +9,6 @@ use Rattle.mesh_policy.specs.declared.case.Tls.{Tls}
 use Rattle.mesh_policy.specs.declared.policy.AuthorizationPolicy.{AuthorizationPolicy}
 use Rattle.mesh_policy.specs.declared.policy.OperationSpec.{OperationSpec}
 use Rattle.mesh_policy.specs.declared.policy.Rule.{Rule}
-use Rattle.mesh_policy.specs.declared.verdict.Verdict.{Verdict}
 use Rattle.mesh_policy.specs.Applies.{applies}
 use Rattle.mesh_policy.specs.Connection.{is_mesh_name, offers_mesh_name}
 use Rattle.mesh_policy.specs.MeshVerdict.{is_allowed, mesh_verdict}
@@ -20,7 +19,7 @@ use Rattle.envoy_types.specs.EnvoyVerdict.{envoy_verdict, verdict_by, tcp_verdic
 use Rattle.envoy_types.specs.Filters as envoy
 use Rattle.envoy_types.specs.Filters.{Run, run_filters}
 use Rattle.envoy_types.specs.Prune.{agreed_name, fits_name}
-use Rattle.mesh_cli.specs.Built.{is_buildable, are_buildable, has_few_rules, has_one_operation, is_sole, has_one_port, rule_policy, rule_policies, policies_of, permissions_of, allow_filter, filters_of, chain_of, mutual_match, opaque_match, listener_with, built}
+use Rattle.mesh_cli.specs.Built.{is_buildable, are_buildable, has_few_rules, has_one_operation, is_sole, has_one_port, rule_policies, policies_of, permissions_of, allow_filter, filters_of, chain_of, mutual_match, opaque_match, built}
 use Rattle.mesh_cli.proofs.Booleans.{both, left_of, right_of}
 
 -- ---- what a policy of the filter holds for

@@ -1,6 +1,6 @@
 -- The listener that enforces the policies of a Pod: three chains for the ports that no chain names, in
 -- PERMISSIVE mode, each with the filter of the policies that apply.
-use Rattle.std.specs.Prelude.{ℕ, ◌+◌, ◌==◌, Bool, true, false, ◌&&◌, List, [], ◌∷◌, ◌++◌, length, map, Option, Some, None, codes, decimal, nat_le, if◌then◌else◌}
+use Rattle.std.specs.Prelude.{ℕ, ◌+◌, Bool, true, false, ◌&&◌, List, [], ◌∷◌, ◌++◌, length, map, Some, None, codes, decimal, nat_le, if◌then◌else◌}
 use Rattle.std.specs.List.{list_any, list_all}
 use Rattle.mesh_policy.specs.declared.bundle.Bundle.{Bundle}
 use Rattle.mesh_policy.specs.declared.bundle.Pod.{Pod}

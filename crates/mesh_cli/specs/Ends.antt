@@ -1,6 +1,6 @@
 -- What a run has done where it ends with each status. `left` is what the input has left, `taken` what a sink
 -- took, `flushed` how much of that is flushed, where they are told; and a value with a prime is that at the end.
-use Rattle.std.specs.Prelude.{◌≡◌, ℕ, ◌≤◌, List, ◌++◌, length, Option, Some, None, IfSome}
+use Rattle.std.specs.Prelude.{◌≡◌, ℕ, List, ◌++◌, Option, Some, IfSome}
 use Rattle.std.specs.Io.KnownBytes.{Appends, Consumes, IsAtEnd, Keeps}
 use Rattle.mesh_edge.specs.Causes.{Rose}
 use Rattle.mesh_edge.specs.Progress.{AllFlushed, TakesFront, TakesSome}

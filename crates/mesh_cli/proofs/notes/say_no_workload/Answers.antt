@@ -1,4 +1,4 @@
-use Rattle.std.proofs.Common.{◌≡◌, ℕ, List, ◌++◌, codes, subst, ap, ◌∙◌}
+use Rattle.std.proofs.Common.{ℕ, List, ◌++◌, codes, subst, ap, ◌∙◌}
 use Rattle.mesh_cli.specs.Notes.{Notes}
 use Rattle.mesh_cli.proofs.Fronts.{noted, no-workload-line}
 use Rattle.mesh_cli.proofs.notes.say_no_workload.Goals as goal

@@ -1,7 +1,6 @@
 use Rattle.std.proofs.Common.{◌≡◌, map, take}
 use Rattle.serde_json.specs.Data.{string}
 use Rattle.serde_json.specs.View.{view}
-use Rattle.envoy_types.specs.Written as form
 use Rattle.mesh_cli.proofs.print.text_values.Given as goal
 
 abbrev pub invariant-loop-text : goal.invariant-loop-text

@@ -1,5 +1,4 @@
 use Rattle.std.proofs.Common.{◌≡◌, map, take}
-use Rattle.serde_json.specs.Data.{string}
 use Rattle.serde_json.specs.View.{view}
 use Rattle.envoy_types.specs.Written as form
 use Rattle.mesh_cli.proofs.print_filters.tcp_filters.Given as goal

@@ -8,7 +8,7 @@ mod judge;
 mod peer;
 mod policy;
 #[cfg(test)]
-mod tests;
+mod judge_tests;
 mod verdict;
 
 pub use bundle::{Bundle, Label, Pod};

@@ -5,13 +5,23 @@
 mod bundle;
 mod case;
 mod judge;
+mod jwt;
+mod pattern;
 mod peer;
 mod policy;
+mod provider;
+mod request;
+mod token;
 mod verdict;
 
 pub use bundle::{Bundle, Label, Pod};
 pub use case::{Case, Mode, Tls};
 pub use judge::{applies, mesh_verdict};
+pub use jwt::{JwtRule, Keys, TokenPlace};
+pub use pattern::Pattern;
 pub use peer::{PeerAuthentication, PortMode};
 pub use policy::{AuthorizationPolicy, OperationSpec, Rule};
+pub use provider::{Provider, cluster_of};
+pub use request::{Header, Request};
+pub use token::find_token;
 pub use verdict::{Outcome, Verdict};

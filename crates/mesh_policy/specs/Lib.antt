@@ -4,4 +4,5 @@ pub mod Connection
 pub mod MeshVerdict
 pub mod Patterns
 pub mod Rules
+pub mod Templates
 pub mod Tokens

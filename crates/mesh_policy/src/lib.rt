@@ -11,6 +11,7 @@ mod peer;
 mod policy;
 mod provider;
 mod request;
+mod template;
 mod token;
 mod verdict;
 
@@ -23,5 +24,6 @@ pub use peer::{PeerAuthentication, PortMode};
 pub use policy::{AuthorizationPolicy, OperationSpec, Rule};
 pub use provider::{Provider, cluster_of};
 pub use request::{Header, Request};
+pub use template::Template;
 pub use token::find_token;
 pub use verdict::{Outcome, Verdict};

@@ -190,7 +190,7 @@ template_means r uri t u e =
 further : (s : List ℕ) (more t : List ℕ)
     → segments_hold (s ∷ segments_of more) t
     ≡ (if bytes_eq s any then ends_with eqb t (47 ∷ more)
-      else (has_slash t && stands_for s (before_first (λ d. eqb d 47) t) && segments_hold (segments_of more) (after_first (λ d. eqb d 47) t)))
+    else (has_slash t && stands_for s (before_first (λ d. eqb d 47) t) && segments_hold (segments_of more) (after_first (λ d. eqb d 47) t)))
 further s more t =
     let q : HasSegment (segments_of more) = some_segment more in
     let join : join_with_byte 47 (q.0 ∷ q.1) ≡ more = ap (join_with_byte 47) (sym q.2) ∙ join_split more in
@@ -204,7 +204,7 @@ Cut = Bor (List ℕ) × Bor (List ℕ)
 at_cut : (uri t : List ℕ) (x : Cut) → IsSplitOnceResult 47 uri (Some x)
     → template_holds uri t
     ≡ (if bytes_eq x.0.now any then ends_with eqb t (47 ∷ x.1.now)
-      else (has_slash t && stands_for x.0.now (before_first (λ d. eqb d 47) t) && segments_hold (segments_of x.1.now) (after_first (λ d. eqb d 47) t)))
+    else (has_slash t && stands_for x.0.now (before_first (λ d. eqb d 47) t) && segments_hold (segments_of x.1.now) (after_first (λ d. eqb d 47) t)))
 at_cut uri t x h = ap (λ ss. segments_hold ss t) (one_more uri x h) ∙ further x.0.now x.1.now t
 
 pub stops_at_any : (uri t : List ℕ) (x : Cut) → IsSplitOnceResult 47 uri (Some x) → bytes_eq x.0.now any ≡ true → ends_with eqb t (47 ∷ x.1.now) ≡ template_holds uri t

@@ -27,3 +27,6 @@ pub use request::{Header, Request};
 pub use template::Template;
 pub use token::find_token;
 pub use verdict::{Outcome, Verdict};
+
+#[cfg(test)]
+mod tests;

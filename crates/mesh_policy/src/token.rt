@@ -12,9 +12,15 @@ pub fn find_token<'a>(place: &TokenPlace, request: &'a Request) -> Option<&'a st
 {
     match place {
         TokenPlace::Header { name, prefix } => {
-            not_empty(behind(prefix.as_str(), value_of(name.as_str(), request.headers.as_slice())))
+            not_empty(behind(
+                prefix.as_str(),
+                value_of(name.as_str(), request.headers.as_slice()),
+            ))
         }
-        TokenPlace::Param(name) => not_empty(parameter(name.as_str(), query_of(request.path.as_str()))),
+        TokenPlace::Param(name) => not_empty(parameter(
+            name.as_str(),
+            query_of(request.path.as_str()),
+        )),
     }
 }
 

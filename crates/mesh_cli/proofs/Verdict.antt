@@ -3,7 +3,7 @@ use Rattle.std.proofs.Common.{◌≡◌, ℕ, ◌+◌, ◌==◌, Bool, true, fal
 use Rattle.std.specs.List.{list_any, list_all}
 use Rattle.std.proofs.lemmas.List.Folds.{list_any-append}
 use Rattle.mesh_policy.specs.declared.bundle.Bundle.{Bundle}
-use Rattle.mesh_policy.specs.declared.bundle.Pod.{Pod}
+use Rattle.mesh_policy.specs.declared.pod.Pod.{Pod}
 use Rattle.mesh_policy.specs.declared.case.Case.{Case}
 use Rattle.mesh_policy.specs.declared.case.Tls.{Tls}
 use Rattle.mesh_policy.specs.declared.policy.AuthorizationPolicy.{AuthorizationPolicy}

@@ -5,7 +5,7 @@ use Rattle.serde_json.specs.Data.{Data}
 use Rattle.serde_json.specs.Read.{read}
 use Rattle.serde_json.specs.Written.{compact_text}
 use Rattle.mesh_policy.specs.declared.bundle.Bundle.{Bundle}
-use Rattle.mesh_policy.specs.declared.bundle.Pod.{Pod}
+use Rattle.mesh_policy.specs.declared.pod.Pod.{Pod}
 use Rattle.envoy_types.specs.Written.{written}
 use Rattle.mesh_cli.specs.declared.refusal.Spot.{Spot}
 use Rattle.mesh_cli.specs.declared.refusal.Spot.TheVariants.{Document, FirstItem, SecondItem}

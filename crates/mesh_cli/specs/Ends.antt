@@ -5,7 +5,7 @@ use Rattle.std.specs.Io.KnownBytes.{Appends, Consumes, IsAtEnd, Keeps}
 use Rattle.mesh_edge.specs.Causes.{Rose}
 use Rattle.mesh_edge.specs.Progress.{AllFlushed, TakesFront, TakesSome}
 use Rattle.mesh_policy.specs.declared.bundle.Bundle.{Bundle}
-use Rattle.mesh_policy.specs.declared.bundle.Pod.{Pod}
+use Rattle.mesh_policy.specs.declared.pod.Pod.{Pod}
 use Rattle.mesh_cli.specs.declared.refusal.Refusal.{Refusal}
 use Rattle.mesh_cli.specs.declared.refusal.Status.{Status}
 use Rattle.mesh_cli.specs.declared.refusal.Status.TheVariants as status

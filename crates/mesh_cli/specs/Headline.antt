@@ -2,7 +2,7 @@
 use Rattle.std.specs.Prelude.{◌≡◌, ℕ, List, Some, Ok}
 use Rattle.serde_json.specs.Data.{Data}
 use Rattle.mesh_policy.specs.declared.bundle.Bundle.{Bundle}
-use Rattle.mesh_policy.specs.declared.bundle.Pod.{Pod}
+use Rattle.mesh_policy.specs.declared.pod.Pod.{Pod}
 use Rattle.mesh_policy.specs.declared.case.Case.{Case}
 use Rattle.mesh_policy.specs.MeshVerdict.{mesh_verdict}
 use Rattle.envoy_types.specs.declared.listener.Listener.{Listener}

@@ -2,7 +2,7 @@
 use Rattle.std.specs.Prelude.{ℕ, Bool, ◌||◌, List, codes, filter}
 use Rattle.std.specs.Str.{bytes_eq}
 use Rattle.mesh_policy.specs.declared.bundle.Bundle.{Bundle}
-use Rattle.mesh_policy.specs.declared.bundle.Pod.{Pod}
+use Rattle.mesh_policy.specs.declared.pod.Pod.{Pod}
 use Rattle.mesh_policy.specs.declared.policy.AuthorizationPolicy.{AuthorizationPolicy}
 
 -- the namespace whose policies apply to the Pods of all namespaces

@@ -2,8 +2,8 @@
 use Rattle.std.specs.Prelude.{ℕ, Bool, List, [], ◌∷◌, Option, Some, None, codes, is_some, if◌then◌else◌}
 use Rattle.std.specs.List.{list_any}
 use Rattle.std.specs.Str.{bytes_eq}
-use Rattle.mesh_policy.specs.declared.case.Mode.{Mode}
-use Rattle.mesh_policy.specs.declared.case.Mode.TheVariants.{Disable, Permissive, Strict}
+use Rattle.mesh_policy.specs.declared.peer.Mode.{Mode}
+use Rattle.mesh_policy.specs.declared.peer.Mode.TheVariants.{Disable, Permissive, Strict}
 use Rattle.mesh_policy.specs.declared.case.Tls.{Tls}
 
 -- closed; or it goes on in plain text, with a peer whose name is known, or as TLS that is passed on unread

@@ -2,10 +2,10 @@
 use Rattle.std.specs.Prelude.{ℕ, Bool, true, false, if◌then◌else◌}
 use Rattle.std.specs.List.{list_any}
 use Rattle.mesh_policy.specs.declared.bundle.Bundle.{Bundle}
-use Rattle.mesh_policy.specs.declared.bundle.Pod.{Pod}
+use Rattle.mesh_policy.specs.declared.pod.Pod.{Pod}
 use Rattle.mesh_policy.specs.declared.case.Case.{Case}
-use Rattle.mesh_policy.specs.declared.case.Mode.{Mode}
-use Rattle.mesh_policy.specs.declared.case.Mode.TheVariants.{Permissive}
+use Rattle.mesh_policy.specs.declared.peer.Mode.{Mode}
+use Rattle.mesh_policy.specs.declared.peer.Mode.TheVariants.{Permissive}
 use Rattle.mesh_policy.specs.declared.verdict.Outcome.{Outcome}
 use Rattle.mesh_policy.specs.declared.verdict.Outcome.TheVariants.{Admitted, Closed}
 use Rattle.mesh_policy.specs.declared.verdict.Verdict.{Verdict}

@@ -1,24 +1,30 @@
-use crate::AuthorizationPolicy;
+use crate::{
+    AuthorizationPolicy, PeerAuthentication, Pod, Provider, RequestAuthentication, Service,
+};
 use mesh_text::{List, Text};
 
-/// A label of a Pod.
+/// The settings of the whole mesh (Istio reference, MeshConfig).
 #[derive(Debug, Drop, PartialEq, Eq)]
-pub struct Label {
-    pub key: Text,
-    pub value: Text,
+pub struct MeshConfig {
+    /// The namespace whose policies apply to the Pods of all namespaces.
+    pub root: Text,
+    /// The external authorizers that CUSTOM policies may name, each name once.
+    pub providers: List<Provider>,
 }
 
-/// A Pod (Kubernetes API reference, Pod v1): what a workload's policies are selected by.
-#[derive(Debug, Drop, PartialEq, Eq)]
-pub struct Pod {
-    pub name: Text,
-    pub namespace: Text,
-    pub labels: List<Label>,
-}
-
-/// The manifests of one document.
+/// The manifests of one document, each kind in the order of the document. No two of one kind have one namespace and
+/// name.
 #[derive(Debug, Drop, PartialEq, Eq)]
 pub struct Bundle {
     pub pods: List<Pod>,
+    pub services: List<Service>,
     pub authorization: List<AuthorizationPolicy>,
+    pub peers: List<PeerAuthentication>,
+    pub requests: List<RequestAuthentication>,
+    /// Its defaults where the document has no MeshConfig.
+    pub mesh: MeshConfig,
+    /// How many MeshConfigs the document has: one at most.
+    pub mesh_items: u32,
+    /// How many items of other kinds were passed over.
+    pub others: u32,
 }

@@ -1,12 +1,26 @@
+use crate::{Answer, Request, TokenVerdict};
+use mesh_net::IpAddr;
 use mesh_text::{List, Text};
 
-/// One connection to judge.
+/// One connection to judge, with its request if it has one, and with what others found out of it: which tokens are
+/// valid, and what authorizers answer.
 #[derive(Debug, Drop, PartialEq, Eq)]
 pub struct Case {
-    /// The destination port.
+    /// Where the connection comes from.
+    pub source: IpAddr,
+    /// The client's own address, before proxies.
+    pub remote: IpAddr,
+    pub destination: IpAddr,
+    /// The destination port, from 1 to 65,535.
     pub port: u16,
     /// None for plaintext.
     pub tls: Option<Tls>,
+    /// None for a connection that carries no HTTP request.
+    pub request: Option<Request>,
+    /// The tokens that are valid, each for a question. Of two for one question the first counts.
+    pub verdicts: List<TokenVerdict>,
+    /// The answers of authorizers. Of two of one cluster the first counts.
+    pub answers: List<Answer>,
 }
 
 /// What TLS gave of a connection.
@@ -18,12 +32,4 @@ pub struct Tls {
     pub sni: Option<Text>,
     /// The application protocols that the client offered, in its order (RFC 7301).
     pub alpn: List<Text>,
-}
-
-/// The mode of a workload's port (Istio reference, PeerAuthentication).
-#[derive(Clone, Copy, Debug, PartialEq, Eq)]
-pub enum Mode {
-    Disable,
-    Permissive,
-    Strict,
 }

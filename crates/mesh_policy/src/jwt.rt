@@ -1,7 +1,19 @@
 ghost use Rattle.std.specs.Prelude.{◌≡◌, IfOk};
 
+use crate::Label;
+use crate::copies::{copy_all, copy_written};
 use mesh_text::{List, Memory, Text};
 use std::alloc::Global;
+
+/// A RequestAuthentication (Istio reference, RequestAuthentication): whose tokens a workload takes.
+#[derive(Debug, Drop, PartialEq, Eq)]
+pub struct RequestAuthentication {
+    pub name: Text,
+    pub namespace: Text,
+    /// What the labels of a Pod have to hold. It selects every Pod of its namespace where there are none.
+    pub labels: List<Label>,
+    pub rules: List<JwtRule>,
+}
 
 /// How the tokens of one issuer are found and checked (Istio reference, RequestAuthentication, JWTRule).
 #[derive(Debug, Drop, PartialEq, Eq)]
@@ -43,9 +55,9 @@ impl JwtRule {
     {
         Ok(JwtRule {
             issuer: self.issuer.copy(alloc)?,
-            audiences: copy_texts(alloc, self.audiences.as_slice())?,
+            audiences: copy_all(alloc, self.audiences.as_slice())?,
             keys: self.keys.copy(alloc)?,
-            places: copy_places(alloc, self.places.as_slice())?,
+            places: copy_all(alloc, self.places.as_slice())?,
             forward: self.forward,
             payload_header: copy_written(alloc, &self.payload_header)?,
         })
@@ -61,49 +73,5 @@ impl Keys {
             Keys::Inline(set) => Ok(Keys::Inline(set.copy(alloc)?)),
             Keys::Uri(uri) => Ok(Keys::Uri(uri.copy(alloc)?)),
         }
-    }
-}
-
-impl TokenPlace {
-    /// An equal place of its own.
-    pub fn copy(&self, alloc: Global) -> Result<TokenPlace, Memory>
-        ensures { IfOk result (λ p. p ≡ self.now) }
-    {
-        match self {
-            TokenPlace::Header { name, prefix } => Ok(TokenPlace::Header {
-                name: name.copy(alloc)?,
-                prefix: prefix.copy(alloc)?,
-            }),
-            TokenPlace::Param(name) => Ok(TokenPlace::Param(name.copy(alloc)?)),
-        }
-    }
-}
-
-fn copy_texts(alloc: Global, texts: &[Text]) -> Result<List<Text>, Memory>
-    ensures { IfOk result (λ l. l ≡ texts.now) }
-{
-    let mut copies = List::new(alloc);
-    for text in texts {
-        copies.push(text.copy(alloc)?)?;
-    }
-    Ok(copies)
-}
-
-fn copy_places(alloc: Global, places: &[TokenPlace]) -> Result<List<TokenPlace>, Memory>
-    ensures { IfOk result (λ l. l ≡ places.now) }
-{
-    let mut copies = List::new(alloc);
-    for place in places {
-        copies.push(place.copy(alloc)?)?;
-    }
-    Ok(copies)
-}
-
-fn copy_written(alloc: Global, text: &Option<Text>) -> Result<Option<Text>, Memory>
-    ensures { IfOk result (λ o. o ≡ text.now) }
-{
-    match text {
-        None => Ok(None),
-        Some(text) => Ok(Some(text.copy(alloc)?)),
     }
 }

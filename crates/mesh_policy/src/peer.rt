@@ -1,4 +1,4 @@
-use crate::{Label, Mode};
+use crate::Label;
 use mesh_text::{List, Text};
 
 /// A PeerAuthentication (Istio reference, PeerAuthentication): how the ports of a workload take TLS.
@@ -23,4 +23,15 @@ pub struct PortMode {
     pub port: u16,
     /// None where it is UNSET.
     pub mode: Option<Mode>,
+}
+
+/// How a port takes connections (Istio reference, PeerAuthentication, mutual TLS modes).
+#[derive(Clone, Copy, Debug, PartialEq, Eq)]
+pub enum Mode {
+    /// TLS is passed on unread.
+    Disable,
+    /// Plain text and mutual TLS.
+    Permissive,
+    /// Mutual TLS alone.
+    Strict,
 }

@@ -5,7 +5,7 @@ use Rattle.mesh_doc.specs.Faults.{Check}
 use Rattle.mesh_doc.specs.Fields.{strict, optional, optional_in}
 use Rattle.mesh_doc.specs.Kinds.{text_faults, text_in}
 use Rattle.mesh_doc.specs.Lists.{map_of, map_in}
-use Rattle.mesh_policy.specs.declared.bundle.Label.{Label}
+use Rattle.mesh_policy.specs.declared.pod.Label.{Label}
 use Rattle.policy_json.specs.declared.labels.TheConstants.{SELECTOR_FIELDS, MATCH_LABELS}
 
 unfoldable pub label_faults : List ℕ → Check

@@ -7,8 +7,8 @@ use Rattle.mesh_doc.specs.Fields.{strict, optional, optional_in}
 use Rattle.mesh_doc.specs.Kinds.{text_faults, text_in}
 use Rattle.mesh_doc.specs.Lists.{map_of, map_in}
 use Rattle.mesh_doc.specs.declared.reason.Reason.TheVariants.{BadEnum, BadPort}
-use Rattle.mesh_policy.specs.declared.case.Mode.{Mode}
-use Rattle.mesh_policy.specs.declared.case.Mode.TheVariants.{Disable, Permissive, Strict}
+use Rattle.mesh_policy.specs.declared.peer.Mode.{Mode}
+use Rattle.mesh_policy.specs.declared.peer.Mode.TheVariants.{Disable, Permissive, Strict}
 use Rattle.mesh_policy.specs.declared.peer.PeerAuthentication.{PeerAuthentication}
 use Rattle.mesh_policy.specs.declared.peer.PortMode.{PortMode}
 use Rattle.mesh_text.specs.Decimal.{decimal_of}

@@ -1,2 +1,4 @@
 pub mod Labels
 pub mod Peer
+pub mod Spec
+pub mod Texts

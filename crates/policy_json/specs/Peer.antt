@@ -13,11 +13,8 @@ use Rattle.mesh_policy.specs.declared.peer.PeerAuthentication.{PeerAuthenticatio
 use Rattle.mesh_policy.specs.declared.peer.PortMode.{PortMode}
 use Rattle.mesh_text.specs.Decimal.{decimal_of}
 use Rattle.policy_json.specs.Labels.{selector_faults, selector_in}
-use Rattle.policy_json.specs.declared.peer.TheConstants.{PEER_FIELDS, SELECTOR, MTLS, PORT_LEVEL_MTLS, MODE, UNSET, DISABLE, PERMISSIVE, STRICT}
-
--- a `spec` that is not there is the empty object
-abbrev pub spec_of : Option Data → Data
-spec_of o = unwrap_or o (object no_members)
+use Rattle.policy_json.specs.declared.labels.TheConstants.{SELECTOR}
+use Rattle.policy_json.specs.declared.peer.TheConstants.{PEER_FIELDS, MTLS, PORT_LEVEL_MTLS, MODE, UNSET, DISABLE, PERMISSIVE, STRICT}
 
 -- ---- the mode
 

@@ -8,6 +8,8 @@ use mesh_text::{List, Text};
 use serde_json::Value;
 use std::alloc::Global;
 
+pub(crate) const SELECTOR: &str = "selector";
+
 const SELECTOR_FIELDS: &str = "matchLabels";
 
 const MATCH_LABELS: &str = "matchLabels";

@@ -4,6 +4,7 @@
 
 mod labels;
 mod peer;
+mod texts;
 #[cfg(test)]
 mod tests;
 

@@ -1,9 +1,10 @@
 ghost use Rattle.std.specs.Prelude.{◌≡◌, option_map};
 ghost use Rattle.serde_json.specs.View.{view};
 ghost use Rattle.mesh_doc.specs.Faults.{Reads};
-ghost use Rattle.policy_json.specs.Peer.{mode_faults, mode_in, mtls_faults, mtls_in, mode_of, port_of, port_faults, port_in, ports_faults, ports_in, spec_of, peer_faults, peer_in};
+ghost use Rattle.policy_json.specs.Peer.{mode_faults, mode_in, mtls_faults, mtls_in, mode_of, port_of, port_faults, port_in, ports_faults, ports_in, peer_faults, peer_in};
+ghost use Rattle.policy_json.specs.Spec.{spec_of};
 
-use crate::labels::Selector;
+use crate::labels::{SELECTOR, Selector};
 use mesh_doc::{DocError, Entry, Form, Place, Reason, Spot, members, only_fields, optional};
 use mesh_policy::{Mode, PeerAuthentication, PortMode};
 use mesh_text::{List, Text, decimal};
@@ -11,8 +12,6 @@ use serde_json::{Map, Value};
 use std::alloc::Global;
 
 const PEER_FIELDS: &str = "mtls portLevelMtls selector";
-
-const SELECTOR: &str = "selector";
 
 const MTLS: &str = "mtls";
 

@@ -1,1 +1,4 @@
+pub mod Keys
+pub mod MeshItems
 pub mod Metadata
+pub mod PortForms

@@ -2,7 +2,11 @@
 //! order (Kubernetes API reference; Istio reference; docs/FORMATS.md has the forms).
 #![tactic(auto)]
 
+mod key;
+mod mesh_config;
 mod metadata;
+mod ports;
+mod seen;
 
 pub use metadata::{
     Names, PeerMetadata, PodMetadata, read_authorization_metadata, read_names, read_peer_metadata,

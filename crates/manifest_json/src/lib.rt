@@ -2,6 +2,7 @@
 //! order (Kubernetes API reference; Istio reference; docs/FORMATS.md has the forms).
 #![tactic(auto)]
 
+mod flat;
 mod metadata;
 
 pub use metadata::{

@@ -1,2 +1,4 @@
 pub mod Flat
 pub mod Metadata
+pub mod PodItems
+pub mod PortForms

@@ -4,8 +4,11 @@
 
 mod flat;
 mod metadata;
+mod pod;
+mod ports;
 
 pub use metadata::{
     Names, PeerMetadata, PodMetadata, read_authorization_metadata, read_names, read_peer_metadata,
     read_plain_metadata, read_pod_metadata,
 };
+pub use pod::read_pod;

@@ -2,3 +2,4 @@ pub mod Flat
 pub mod Metadata
 pub mod PodItems
 pub mod PortForms
+pub mod ServiceItems

@@ -6,9 +6,11 @@ mod flat;
 mod metadata;
 mod pod;
 mod ports;
+mod service;
 
 pub use metadata::{
     Names, PeerMetadata, PodMetadata, read_authorization_metadata, read_names, read_peer_metadata,
     read_plain_metadata, read_pod_metadata,
 };
 pub use pod::read_pod;
+pub use service::read_service;

@@ -2,13 +2,19 @@
 //! order (Kubernetes API reference; Istio reference; docs/FORMATS.md has the forms).
 #![tactic(auto)]
 
+mod flat;
 mod key;
 mod mesh_config;
 mod metadata;
+mod pod;
 mod ports;
 mod seen;
+mod service;
 
+pub use mesh_config::read_mesh_config;
 pub use metadata::{
     Names, PeerMetadata, PodMetadata, read_authorization_metadata, read_names, read_peer_metadata,
     read_plain_metadata, read_pod_metadata,
 };
+pub use pod::read_pod;
+pub use service::read_service;

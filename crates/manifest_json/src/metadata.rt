@@ -143,7 +143,7 @@ impl Form for PlainMeta {
     }
 }
 
-struct Labels;
+pub(crate) struct Labels;
 
 impl Form for Labels {
     type Out = List<Label>;

@@ -1,4 +1,7 @@
 pub mod Labels
+pub mod Operations
 pub mod Peer
+pub mod Sources
 pub mod Spec
 pub mod Texts
+pub mod Values

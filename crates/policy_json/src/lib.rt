@@ -3,10 +3,13 @@
 #![tactic(auto)]
 
 mod labels;
+mod operations;
 mod peer;
-mod texts;
+mod sources;
 #[cfg(test)]
 mod tests;
+mod texts;
+mod values;
 
 pub use labels::read_labels;
 pub use peer::read_peer;

@@ -2,11 +2,19 @@
 //! (Istio reference; docs/FORMATS.md has the forms).
 #![tactic(auto)]
 
+mod authorization;
+mod condition_keys;
+mod conditions;
 mod labels;
+mod operations;
 mod peer;
-mod texts;
+mod rules;
+mod sources;
 #[cfg(test)]
 mod tests;
+mod texts;
+mod values;
 
+pub use authorization::read_authorization;
 pub use labels::read_labels;
 pub use peer::read_peer;

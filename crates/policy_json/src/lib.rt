@@ -2,11 +2,17 @@
 //! (Istio reference; docs/FORMATS.md has the forms).
 #![tactic(auto)]
 
+mod jwt_rule;
+mod key_sets;
 mod labels;
 mod peer;
-mod texts;
+mod request;
+mod target_refs;
 #[cfg(test)]
 mod tests;
+mod texts;
+mod token_places;
 
 pub use labels::read_labels;
 pub use peer::read_peer;
+pub use request::read_request;

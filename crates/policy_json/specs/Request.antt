@@ -19,6 +19,10 @@ use Rattle.policy_json.specs.declared.jwt_rule.TheConstants.{RULE_FIELDS, ISSUER
 use Rattle.policy_json.specs.declared.labels.TheConstants.{SELECTOR}
 use Rattle.policy_json.specs.declared.request.TheConstants.{REQUEST_FIELDS, JWT_RULES}
 
+-- the most entries of a list
+abbrev pub most : ℕ
+most = 2048
+
 -- ---- one rule
 
 -- a token in lower case, or an empty text, which stands for none
@@ -37,11 +41,11 @@ keys_in d = keys_of (unless_empty (optional_in JWKS_URI.now text_in d)) (unless_
 unfoldable pub rule_faults : Check
 rule_faults = strict RULE_FIELDS.now
     (required ISSUER.now short_text_faults
-    ⨾ listed AUDIENCES.now 2048 short_text_faults
+    ⨾ listed AUDIENCES.now most short_text_faults
     ⨾ optional JWKS_URI.now bounded_text_faults
     ⨾ optional JWKS.now key_set_faults
-    ⨾ listed FROM_HEADERS.now 2048 header_faults
-    ⨾ listed FROM_PARAMS.now 2048 param_faults
+    ⨾ listed FROM_HEADERS.now most header_faults
+    ⨾ listed FROM_PARAMS.now most param_faults
     ⨾ optional FORWARD.now truth_faults
     ⨾ optional PAYLOAD_HEADER.now payload_header_faults
     ⨾ demands (λ d. is_some (keys_in d)) JwtKeys)
@@ -62,7 +66,7 @@ unfoldable pub request_faults : Check
 request_faults = strict REQUEST_FIELDS.now
     (optional SELECTOR.now selector_faults
     ⨾ targets_faults
-    ⨾ listed JWT_RULES.now 2048 rule_faults)
+    ⨾ listed JWT_RULES.now most rule_faults)
 
 unfoldable pub request_in : List ℕ → List ℕ → Data → RequestAuthentication
 request_in name namespace d = record {

@@ -13,6 +13,9 @@ use mesh_text::Text;
 use serde_json::Value;
 use std::alloc::Global;
 
+/// The most entries of a list.
+pub(crate) const MOST: u32 = 2_048;
+
 const RULE_FIELDS: &str =
     "audiences forwardOriginalToken fromHeaders fromParams issuer jwks jwksUri outputPayloadToHeader";
 
@@ -48,11 +51,11 @@ impl Form for RuleForm {
         let place = at.place(alloc)?;
         only_fields(alloc, v, RULE_FIELDS, &place)?;
         let issuer = required::<ShortText>(alloc, v, ISSUER, &place)?;
-        let audiences = listed::<ShortText>(alloc, v, AUDIENCES, 2_048, &place)?;
+        let audiences = listed::<ShortText>(alloc, v, AUDIENCES, MOST, &place)?;
         let uri = optional::<BoundedText>(alloc, v, JWKS_URI, &place)?;
         let set = optional::<KeySetText>(alloc, v, JWKS, &place)?;
-        let headers = listed::<FromHeader>(alloc, v, FROM_HEADERS, 2_048, &place)?;
-        let params = listed::<FromParam>(alloc, v, FROM_PARAMS, 2_048, &place)?;
+        let headers = listed::<FromHeader>(alloc, v, FROM_HEADERS, MOST, &place)?;
+        let params = listed::<FromParam>(alloc, v, FROM_PARAMS, MOST, &place)?;
         let forward = optional::<AnyTruth>(alloc, v, FORWARD, &place)?;
         let payload_header = optional::<PayloadHeader>(alloc, v, PAYLOAD_HEADER, &place)?;
         let Some(keys) = keys_of(unless_empty(uri), unless_empty(set)) else {

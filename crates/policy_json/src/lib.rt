@@ -7,6 +7,8 @@ mod key_sets;
 mod labels;
 mod peer;
 mod request;
+#[cfg(test)]
+mod request_tests;
 mod target_refs;
 #[cfg(test)]
 mod tests;

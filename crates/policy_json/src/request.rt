@@ -4,7 +4,7 @@ ghost use Rattle.mesh_doc.specs.Faults.{Reads};
 ghost use Rattle.policy_json.specs.Request.{request_faults, request_in};
 ghost use Rattle.policy_json.specs.Spec.{spec_of};
 
-use crate::jwt_rule::RuleForm;
+use crate::jwt_rule::{MOST, RuleForm};
 use crate::labels::{SELECTOR, Selector};
 use crate::target_refs::no_targets;
 use mesh_doc::{DocError, Place, listed, only_fields, optional};
@@ -58,7 +58,7 @@ fn read_spec(
     only_fields(alloc, v, REQUEST_FIELDS, place)?;
     let labels = optional::<Selector>(alloc, v, SELECTOR, place)?;
     no_targets(alloc, v, place)?;
-    let rules = listed::<RuleForm>(alloc, v, JWT_RULES, 2_048, place)?;
+    let rules = listed::<RuleForm>(alloc, v, JWT_RULES, MOST, place)?;
     Ok(RequestAuthentication {
         name,
         namespace,

@@ -5,16 +5,24 @@
 mod authorization;
 mod condition_keys;
 mod conditions;
+mod jwt_rule;
+mod key_sets;
 mod labels;
 mod operations;
 mod peer;
+mod request;
+#[cfg(test)]
+mod request_tests;
 mod rules;
 mod sources;
+mod target_refs;
 #[cfg(test)]
 mod tests;
 mod texts;
+mod token_places;
 mod values;
 
 pub use authorization::read_authorization;
 pub use labels::read_labels;
 pub use peer::read_peer;
+pub use request::read_request;

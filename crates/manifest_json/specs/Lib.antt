@@ -1,7 +1,9 @@
 pub mod Flat
 pub mod Keys
+pub mod KindTable
 pub mod MeshItems
 pub mod Metadata
 pub mod PodItems
+pub mod PolicyItems
 pub mod PortForms
 pub mod ServiceItems

@@ -14,6 +14,7 @@ use Rattle.mesh_policy.specs.declared.bundle.MeshConfig.{MeshConfig}
 use Rattle.mesh_policy.specs.declared.provider.Provider.{Provider}
 use Rattle.mesh_text.specs.Token.{is_token}
 use Rattle.manifest_json.specs.Metadata.{name_faults, namespace_faults}
+use Rattle.manifest_json.specs.PolicyItems.{at_spec, spec_in}
 use Rattle.manifest_json.specs.PortForms.{port_faults}
 use Rattle.manifest_json.specs.declared.mesh_config.Authorizer.{Authorizer}
 use Rattle.manifest_json.specs.declared.mesh_config.TheConstants.{AUTHORIZER_FIELDS, ENVOY_EXT_AUTHZ_GRPC, ENVOY_EXT_AUTHZ_HTTP, EXTENSION_PROVIDERS, FAIL_OPEN, MESH_FIELDS, MOST_PROVIDERS, PORT, PROVIDER_FIELDS, ROOT_NAMESPACE, SERVICE, SYSTEM_NAMESPACE}
@@ -90,3 +91,10 @@ mesh_config_in d = record {
   root = unwrap_or (optional_in ROOT_NAMESPACE.now text_in d) SYSTEM_NAMESPACE.now;
   providers = listed_in EXTENSION_PROVIDERS.now provider_in d;
 }
+
+-- its metadata are not read
+unfoldable pub mesh_item_faults : Check
+mesh_item_faults = at_spec mesh_config_faults
+
+unfoldable pub mesh_item_in : Data → MeshConfig
+mesh_item_in d = mesh_config_in (spec_in d)

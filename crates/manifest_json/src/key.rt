@@ -5,7 +5,7 @@ ghost use Rattle.manifest_json.specs.Keys.{same_key};
 use crate::seen::Seen;
 use mesh_text::{Memory, Text};
 
-/// The kinds of items.
+/// The kinds of items. A policy is of one kind in all its API versions.
 #[derive(Clone, Copy, Debug, PartialEq, Eq, Hash)]
 pub enum Kind {
     Pod,
@@ -14,6 +14,8 @@ pub enum Kind {
     Peer,
     Request,
     Mesh,
+    /// None of these. Such an item is passed over.
+    Other,
 }
 
 /// What no two items of a document share.

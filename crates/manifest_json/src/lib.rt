@@ -4,9 +4,11 @@
 
 mod flat;
 mod key;
+mod kind_table;
 mod mesh_config;
 mod metadata;
 mod pod;
+mod policy_items;
 mod ports;
 mod seen;
 mod service;

@@ -3,19 +3,20 @@ ghost use Rattle.serde_json.specs.View.{view};
 ghost use Rattle.mesh_doc.specs.Faults.{Reads};
 ghost use Rattle.mesh_doc.specs.Fields.{required_in};
 ghost use Rattle.mesh_doc.specs.Kinds.{text_in};
-ghost use Rattle.manifest_json.specs.MeshItems.{after_provider, authorizer_faults, authorizer_in, form_in, forms_faults, mesh_config_faults, mesh_config_in, name_in_turn_faults, provider_faults, provider_in, token_faults};
+ghost use Rattle.manifest_json.specs.MeshItems.{after_provider, authorizer_faults, authorizer_in, form_in, forms_faults, mesh_config_faults, mesh_config_in, mesh_item_faults, mesh_item_in, name_in_turn_faults, provider_faults, provider_in, token_faults};
 ghost use Rattle.manifest_json.specs.declared.metadata.TheConstants.{NAME};
 
 use crate::metadata::{NAME, Name, Namespace};
+use crate::pod::SPEC;
 use crate::ports::PortNumber;
 use crate::seen::Seen;
 use mesh_doc::{
-    AnyTruth, DocError, Form, InTurn, Place, Reason, Spot, field, listed_in_turn, missing,
-    only_fields, optional, refuse, required,
+    AnyTruth, DocError, Form, InTurn, Place, Reason, Spot, below_key, field, listed_in_turn,
+    missing, only_fields, optional, refuse, required,
 };
 use mesh_policy::{MeshConfig, Provider};
 use mesh_text::{List, Text, is_token};
-use serde_json::Value;
+use serde_json::{Map, Value};
 use std::alloc::Global;
 
 const MESH_FIELDS: &str = "extensionProviders rootNamespace";
@@ -65,6 +66,22 @@ pub fn read_mesh_config(alloc: Global, v: &Value, place: &Place) -> Result<MeshC
         None => Text::of(alloc, SYSTEM_NAMESPACE)?,
     };
     Ok(MeshConfig { root, providers })
+}
+
+/// The MeshConfig that the item at `place` means, or the first fault of its `spec`. Its metadata are not read.
+#[tactic(auto, unfolding(crate::specs::MeshItems::mesh_item_faults, crate::specs::MeshItems::mesh_item_in))]
+pub(crate) fn read_mesh_item(
+    alloc: Global,
+    item: &Value,
+    place: &Place,
+) -> Result<MeshConfig, DocError>
+    ensures { Reads result (mesh_item_faults (view item.now) place.now) (mesh_item_in (view item.now)) }
+{
+    let below = below_key(alloc, place, SPEC)?;
+    match field(item, SPEC) {
+        Some(spec) => read_mesh_config(alloc, spec, &below),
+        None => read_mesh_config(alloc, &Value::Object(Map::new(alloc)), &below),
+    }
 }
 
 struct ProviderEntry;

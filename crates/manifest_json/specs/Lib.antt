@@ -1,4 +1,5 @@
 pub mod Flat
+pub mod ItemForms
 pub mod Keys
 pub mod KindTable
 pub mod MeshItems

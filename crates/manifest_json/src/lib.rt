@@ -3,6 +3,7 @@
 #![tactic(auto)]
 
 mod flat;
+mod items;
 mod key;
 mod kind_table;
 mod mesh_config;

@@ -1,3 +1,4 @@
+pub mod BundleItems
 pub mod Flat
 pub mod ItemForms
 pub mod Keys

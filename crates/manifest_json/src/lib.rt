@@ -2,7 +2,9 @@
 //! order (Kubernetes API reference; Istio reference; docs/FORMATS.md has the forms).
 #![tactic(auto)]
 
+mod document;
 mod flat;
+mod gather;
 mod items;
 mod key;
 mod kind_table;
@@ -14,6 +16,7 @@ mod ports;
 mod seen;
 mod service;
 
+pub use document::read_bundle;
 pub use mesh_config::read_mesh_config;
 pub use metadata::{
     Names, PeerMetadata, PodMetadata, read_authorization_metadata, read_names, read_peer_metadata,

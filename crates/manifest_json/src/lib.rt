@@ -2,6 +2,8 @@
 //! order (Kubernetes API reference; Istio reference; docs/FORMATS.md has the forms).
 #![tactic(auto)]
 
+#[cfg(test)]
+mod bundle_tests;
 mod document;
 mod flat;
 mod gather;

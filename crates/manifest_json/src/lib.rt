@@ -6,6 +6,8 @@ mod flat;
 mod metadata;
 mod pod;
 mod ports;
+#[cfg(test)]
+mod reader_tests;
 mod service;
 
 pub use metadata::{

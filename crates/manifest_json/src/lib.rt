@@ -4,11 +4,15 @@
 
 mod flat;
 mod metadata;
-mod pod;
-mod ports;
 #[cfg(test)]
-mod reader_tests;
+mod metadata_tests;
+mod pod;
+#[cfg(test)]
+mod port_tests;
+mod ports;
 mod service;
+#[cfg(test)]
+mod told;
 
 pub use metadata::{
     Names, PeerMetadata, PodMetadata, read_authorization_metadata, read_names, read_peer_metadata,

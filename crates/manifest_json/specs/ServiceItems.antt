@@ -1,5 +1,5 @@
 -- A Service (Kubernetes API reference, Service v1): its selector and its TCP ports.
-use Rattle.std.specs.Prelude.{List, [], Option, Some, None, is_some, unwrap_or, if◌then◌else◌}
+use Rattle.std.specs.Prelude.{[], Option, Some, None, is_some, unwrap_or, if◌then◌else◌}
 use Rattle.serde_json.specs.Data.{Data}
 use Rattle.serde_json.specs.Find.{as_str}
 use Rattle.mesh_doc.specs.Faults.{Check, none, ◌⨾◌}

@@ -3,11 +3,15 @@
 #![tactic(auto)]
 
 mod authorization;
+#[cfg(test)]
+mod authorization_tests;
 mod condition_keys;
 mod conditions;
 mod labels;
 mod operations;
 mod peer;
+#[cfg(test)]
+mod refusal_tests;
 mod rules;
 mod sources;
 #[cfg(test)]

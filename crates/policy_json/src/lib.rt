@@ -3,6 +3,8 @@
 #![tactic(auto)]
 
 mod authorization;
+#[cfg(test)]
+mod authorization_tests;
 mod condition_keys;
 mod conditions;
 mod jwt_rule;
@@ -10,6 +12,8 @@ mod key_sets;
 mod labels;
 mod operations;
 mod peer;
+#[cfg(test)]
+mod refusal_tests;
 mod request;
 #[cfg(test)]
 mod request_tests;

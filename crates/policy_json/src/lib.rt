@@ -9,6 +9,8 @@ mod peer;
 mod request;
 #[cfg(test)]
 mod request_tests;
+#[cfg(test)]
+mod rule_tests;
 mod target_refs;
 #[cfg(test)]
 mod tests;

@@ -25,7 +25,7 @@ most = 2048
 
 -- ---- one rule
 
--- a token in lower case, or an empty text, which stands for none
+-- the name of a header, or an empty text, which stands for none
 abbrev pub is_empty_or_name : List ℕ → Bool
 is_empty_or_name [] = true
 is_empty_or_name (c ∷ t) = is_name (c ∷ t)
@@ -33,8 +33,8 @@ is_empty_or_name (c ∷ t) = is_name (c ∷ t)
 unfoldable pub payload_header_faults : Check
 payload_header_faults = text_faults ▸ demands (λ d. is_empty_or_name (text_in d)) BadName
 
--- `jwksUri` or `jwks`. A text with a fault of its own counts as one of its length, and a value of another kind as none:
--- in both cases its fault comes first, so that JwtKeys is told of texts without fault alone
+-- The keys, where exactly one of `jwksUri` and `jwks` is there. For this a text that is too long is there, and a value
+-- that is no text is not. It makes no difference to the first fault: that of the field itself comes before JwtKeys.
 abbrev pub keys_in : Data → Option Keys
 keys_in d = keys_of (unless_empty (optional_in JWKS_URI.now text_in d)) (unless_empty (optional_in JWKS.now text_in d))
 

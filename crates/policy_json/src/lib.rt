@@ -17,6 +17,8 @@ mod refusal_tests;
 mod request;
 #[cfg(test)]
 mod request_tests;
+#[cfg(test)]
+mod rule_tests;
 mod rules;
 mod sources;
 mod target_refs;

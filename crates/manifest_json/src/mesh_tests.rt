@@ -78,3 +78,26 @@ fn each_name_has_one_authorizer(rt: HostRuntime) {
         r#"{"apiVersion":"mesh.profile/v1","kind":"MeshConfig","spec":{"extensionProviders":["#;
     read_all(&rt, rt.alloc(), front, "]}}", PROVIDERS);
 }
+
+fn provider_list(rt: &impl Abort, alloc: Global, entries: u32) -> String {
+    let mut list = String::from_str(alloc, "[{}").expect(rt, "memory");
+    for _ in 1..entries {
+        list.push_str(",{}").expect(rt, "memory");
+    }
+    list.push(']').expect(rt, "memory");
+    list
+}
+
+#[test]
+fn a_mesh_has_at_most_2048_providers(rt: HostRuntime) {
+    let alloc = rt.alloc();
+    let front =
+        r#"{"apiVersion":"mesh.profile/v1","kind":"MeshConfig","spec":{"extensionProviders":"#;
+    for (entries, want) in [(2048, "/0/name: MissingField"), (2049, ": TooMany")] {
+        let list = provider_list(&rt, alloc, entries);
+        let row = format!(in alloc; "{list} => $/spec/extensionProviders{want}").expect(
+            &rt, "memory",
+        );
+        read_all(&rt, alloc, front, "}}", row.as_str());
+    }
+}

@@ -32,14 +32,20 @@ impl Model for Template {
 }
 
 impl Template {
-    /// Reads a template of a policy. None where the text isn't one: it begins with `/` and has an operator;
-    /// each operator is a whole segment, `{**}` is the last of them, and the other segments hold none of `*`,
-    /// `{` and `}`.
+    /// Whether a text is a template of a policy: it begins with `/` and has an operator; each operator is a whole
+    /// segment, `{**}` is the last of them, and the other segments hold none of `*`, `{` and `}`. It takes no memory.
+    pub fn is_template(s: &str) -> bool
+        ensures { result ≡ form.is_template s.now }
+    {
+        is_form(s, "{*}", "{**}")
+    }
+
+    /// Reads a template of a policy. None where the text isn't one, by `is_template`.
     pub fn parse(alloc: Global, s: &str) -> Result<Option<Template>, Memory>
         ensures value { IfOk result (λ t. t ≡ form.template_of s.now) }
         ensures pieces { IfOk result (λ t. IfSome t (λ uri. form.uri_pieces uri ≡ form.template_pieces s.now)) }
     {
-        if !is_form(s, "{*}", "{**}") {
+        if !Template::is_template(s) {
             return Ok(None);
         }
         let uri = uri_of(alloc, s)?;

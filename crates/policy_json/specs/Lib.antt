@@ -1,4 +1,11 @@
+pub mod Authorization
+pub mod ConditionKeys
+pub mod Conditions
 pub mod Labels
+pub mod Operations
 pub mod Peer
+pub mod Rules
+pub mod Sources
 pub mod Spec
 pub mod Texts
+pub mod Values

@@ -2,11 +2,23 @@
 //! (Istio reference; docs/FORMATS.md has the forms).
 #![tactic(auto)]
 
+mod authorization;
+#[cfg(test)]
+mod authorization_tests;
+mod condition_keys;
+mod conditions;
 mod labels;
+mod operations;
 mod peer;
-mod texts;
+#[cfg(test)]
+mod refusal_tests;
+mod rules;
+mod sources;
 #[cfg(test)]
 mod tests;
+mod texts;
+mod values;
 
+pub use authorization::read_authorization;
 pub use labels::read_labels;
 pub use peer::read_peer;

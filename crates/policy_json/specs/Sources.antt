@@ -1,0 +1,37 @@
+-- Who a request comes from (Istio reference, "Authorization Policy": Source).
+use Rattle.serde_json.specs.Data.{Data}
+use Rattle.mesh_doc.specs.Faults.{Check, ◌⨾◌}
+use Rattle.mesh_doc.specs.Fields.{strict}
+use Rattle.mesh_doc.specs.Kinds.{text_in}
+use Rattle.mesh_doc.specs.Lists.{listed, listed_in}
+use Rattle.mesh_policy.specs.declared.policy.SourceSpec.{SourceSpec}
+use Rattle.policy_json.specs.Texts.{short_text_faults}
+use Rattle.policy_json.specs.Values.{most, block_faults, block_in, request_principal_faults}
+use Rattle.policy_json.specs.declared.sources.TheConstants.{SOURCE_FIELDS, PRINCIPALS, NOT_PRINCIPALS, REQUEST_PRINCIPALS, NOT_REQUEST_PRINCIPALS, NAMESPACES, NOT_NAMESPACES, IP_BLOCKS, NOT_IP_BLOCKS, REMOTE_IP_BLOCKS, NOT_REMOTE_IP_BLOCKS}
+
+unfoldable pub source_faults : Check
+source_faults = strict SOURCE_FIELDS.now
+    (listed PRINCIPALS.now most short_text_faults
+    ⨾ listed NOT_PRINCIPALS.now most short_text_faults
+    ⨾ listed REQUEST_PRINCIPALS.now most request_principal_faults
+    ⨾ listed NOT_REQUEST_PRINCIPALS.now most request_principal_faults
+    ⨾ listed NAMESPACES.now most short_text_faults
+    ⨾ listed NOT_NAMESPACES.now most short_text_faults
+    ⨾ listed IP_BLOCKS.now most block_faults
+    ⨾ listed NOT_IP_BLOCKS.now most block_faults
+    ⨾ listed REMOTE_IP_BLOCKS.now most block_faults
+    ⨾ listed NOT_REMOTE_IP_BLOCKS.now most block_faults)
+
+unfoldable pub source_in : Data → SourceSpec
+source_in d = record {
+  principals = listed_in PRINCIPALS.now text_in d;
+  not_principals = listed_in NOT_PRINCIPALS.now text_in d;
+  request_principals = listed_in REQUEST_PRINCIPALS.now text_in d;
+  not_request_principals = listed_in NOT_REQUEST_PRINCIPALS.now text_in d;
+  namespaces = listed_in NAMESPACES.now text_in d;
+  not_namespaces = listed_in NOT_NAMESPACES.now text_in d;
+  ip_blocks = listed_in IP_BLOCKS.now block_in d;
+  not_ip_blocks = listed_in NOT_IP_BLOCKS.now block_in d;
+  remote_ip_blocks = listed_in REMOTE_IP_BLOCKS.now block_in d;
+  not_remote_ip_blocks = listed_in NOT_REMOTE_IP_BLOCKS.now block_in d;
+}

@@ -1,0 +1,219 @@
+ghost use Rattle.std.specs.Prelude.{◌≡◌, ◌==◌, option_map};
+ghost use Rattle.serde_json.specs.Events.{items_len};
+ghost use Rattle.serde_json.specs.View.{items_view, view};
+ghost use Rattle.mesh_doc.specs.Faults.{Reads};
+ghost use Rattle.mesh_doc.specs.Kinds.{text_in};
+ghost use Rattle.policy_json.specs.Authorization.{action_faults, action_in, action_of, authorization_faults, authorization_in, belongs, is_empty_list, provider_faults, provider_in, provider_name_faults, targets_faults};
+ghost use Rattle.policy_json.specs.Spec.{spec_of};
+
+use crate::labels::{SELECTOR, Selector};
+use crate::rules::RuleEntry;
+use crate::values::MOST;
+use mesh_doc::{
+    DocError, Form, Place, Reason, Spot, listed, only_fields, optional, refuse, required,
+};
+use mesh_policy::{Action, AuthorizationPolicy};
+use mesh_text::{List, Text, is_token};
+use serde_json::{Map, Value};
+use std::alloc::Global;
+
+const AUTHORIZATION_FIELDS: &str = "action provider rules selector targetRef targetRefs";
+
+const TARGET_REFS: &str = "targetRefs";
+
+const TARGET_REF: &str = "targetRef";
+
+const ACTION: &str = "action";
+
+const PROVIDER: &str = "provider";
+
+const RULES: &str = "rules";
+
+const NAME: &str = "name";
+
+const ALLOW: &str = "ALLOW";
+
+const DENY: &str = "DENY";
+
+const AUDIT: &str = "AUDIT";
+
+const CUSTOM: &str = "CUSTOM";
+
+/// The AuthorizationPolicy that the `spec` at `place` means (Istio reference, "Authorization Policy"), or its first
+/// fault: UnknownField, WrongType, MissingField, TargetRefs, BadEnum, BadName, TooMany, BadValue, BadPort, BadCidr,
+/// TooManySlashes, BadTemplate, BadKey, EmptyCondition, and last ProviderRule. None stands for a `spec` that is not
+/// written or `null`. A list has at most 2,048 entries, and a value of a rule 1 to 1,024 bytes.
+pub fn read_authorization(
+    alloc: Global,
+    name: Text,
+    namespace: Text,
+    spec: Option<&Value>,
+    place: &Place,
+) -> Result<AuthorizationPolicy, DocError>
+    ensures { Reads result
+        (authorization_faults (spec_of (option_map (λ v. view v.now) spec.entry)) place.now)
+        (authorization_in name namespace (spec_of (option_map (λ v. view v.now) spec.entry))) }
+{
+    match spec {
+        Some(v) => read_spec(alloc, name, namespace, v, place),
+        None => read_spec(
+            alloc,
+            name,
+            namespace,
+            &Value::Object(Map::new(alloc)),
+            place,
+        ),
+    }
+}
+
+#[tactic(auto, unfolding(crate::specs::Authorization::authorization_faults, crate::specs::Authorization::authorization_in))]
+fn read_spec(
+    alloc: Global,
+    name: Text,
+    namespace: Text,
+    v: &Value,
+    place: &Place,
+) -> Result<AuthorizationPolicy, DocError>
+    ensures { Reads result
+        (authorization_faults (view v.now) place.now)
+        (authorization_in name namespace (view v.now)) }
+{
+    only_fields(alloc, v, AUTHORIZATION_FIELDS, place)?;
+    let labels = optional::<Selector>(alloc, v, SELECTOR, place)?;
+    optional::<NoTargets>(alloc, v, TARGET_REFS, place)?;
+    optional::<NoTargets>(alloc, v, TARGET_REF, place)?;
+    let action = optional::<ActionWord>(alloc, v, ACTION, place)?.unwrap_or(Action::Allow);
+    let provider = optional::<Provider>(alloc, v, PROVIDER, place)?;
+    let rules = listed::<RuleEntry>(alloc, v, RULES, MOST, place)?;
+    if !belongs(action, &provider) {
+        return Err(refuse(alloc, place, Reason::ProviderRule));
+    }
+    Ok(AuthorizationPolicy {
+        name,
+        namespace,
+        labels: labels.unwrap_or(List::new(alloc)),
+        action,
+        provider,
+        rules,
+    })
+}
+
+fn belongs(action: Action, provider: &Option<Text>) -> bool
+    ensures { result ≡ belongs action provider.now }
+{
+    match action {
+        Action::Custom => provider.is_some(),
+        _ => provider.is_none(),
+    }
+}
+
+struct NoTargets;
+
+impl Form for NoTargets {
+    type Out = ();
+
+    ghost faults = { targets_faults };
+
+    ghost value = { λ d. tt };
+
+    #[tactic(auto, unfolding(crate::specs::Authorization::targets_faults))]
+    fn read(alloc: Global, v: &Value, at: &Spot) -> Result<(), DocError> {
+        if !is_empty_list(v) {
+            return Err(at.refuse(alloc, Reason::TargetRefs));
+        }
+        Ok(())
+    }
+}
+
+fn is_empty_list(v: &Value) -> bool
+    ensures { result ≡ is_empty_list (view v.now) }
+{
+    match v {
+        Value::Array(items) => has_none(items.as_slice()),
+        _ => false,
+    }
+}
+
+#[tactic(auto, using(crate::proofs::Counts::count_of_items))]
+fn has_none(items: &[Value]) -> bool
+    ensures { result ≡ (items_len (items_view items.now) == 0) }
+{
+    items.is_empty()
+}
+
+struct ActionWord;
+
+impl Form for ActionWord {
+    type Out = Action;
+
+    ghost faults = { action_faults };
+
+    ghost value = { action_in };
+
+    #[tactic(auto, unfolding(crate::specs::Authorization::action_faults, crate::specs::Authorization::action_in, mesh_doc::specs::Kinds::text_faults, mesh_doc::specs::Kinds::text_in))]
+    fn read(alloc: Global, v: &Value, at: &Spot) -> Result<Action, DocError> {
+        let Value::String(word) = v else {
+            return Err(at.refuse(alloc, Reason::WrongType));
+        };
+        match action_named(word.as_str()) {
+            Some(action) => Ok(action),
+            None => Err(at.refuse(alloc, Reason::BadEnum)),
+        }
+    }
+}
+
+fn action_named(word: &str) -> Option<Action>
+    ensures { result ≡ action_of word.now }
+{
+    if word == ALLOW {
+        return Some(Action::Allow);
+    }
+    if word == DENY {
+        return Some(Action::Deny);
+    }
+    if word == AUDIT {
+        return Some(Action::Audit);
+    }
+    if word == CUSTOM {
+        return Some(Action::Custom);
+    }
+    None
+}
+
+struct Provider;
+
+impl Form for Provider {
+    type Out = Text;
+
+    ghost faults = { provider_faults };
+
+    ghost value = { provider_in };
+
+    #[tactic(auto, unfolding(crate::specs::Authorization::provider_faults, crate::specs::Authorization::provider_in))]
+    fn read(alloc: Global, v: &Value, at: &Spot) -> Result<Text, DocError> {
+        let place = at.place(alloc)?;
+        only_fields(alloc, v, NAME, &place)?;
+        required::<ProviderName>(alloc, v, NAME, &place)
+    }
+}
+
+struct ProviderName;
+
+impl Form for ProviderName {
+    type Out = Text;
+
+    ghost faults = { provider_name_faults };
+
+    ghost value = { text_in };
+
+    #[tactic(auto, unfolding(crate::specs::Authorization::provider_name_faults, mesh_doc::specs::Kinds::text_faults, mesh_doc::specs::Kinds::text_in))]
+    fn read(alloc: Global, v: &Value, at: &Spot) -> Result<Text, DocError> {
+        let Value::String(name) = v else {
+            return Err(at.refuse(alloc, Reason::WrongType));
+        };
+        if !is_token(name.as_str()) {
+            return Err(at.refuse(alloc, Reason::BadName));
+        }
+        Ok(Text::of(alloc, name.as_str())?)
+    }
+}

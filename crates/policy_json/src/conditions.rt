@@ -1,0 +1,109 @@
+ghost use Rattle.serde_json.specs.View.{view};
+ghost use Rattle.mesh_doc.specs.Faults.{Reads};
+ghost use Rattle.policy_json.specs.Conditions as conditions;
+ghost use Rattle.policy_json.specs.Conditions.{condition_faults, condition_in};
+
+use crate::condition_keys::{ConditionKey, KeyName};
+use crate::texts::ShortText;
+use crate::values::{BlockValue, MOST, PortValue, RequestPrincipal};
+use mesh_doc::{DocError, Form, Place, Reason, Spot, listed, only_fields, refuse, required};
+use mesh_policy::{Condition, TextKey};
+use mesh_text::List;
+use serde_json::Value;
+use std::alloc::Global;
+
+const CONDITION_FIELDS: &str = "key notValues values";
+
+const KEY: &str = "key";
+
+const VALUES: &str = "values";
+
+const NOT_VALUES: &str = "notValues";
+
+/// A condition: its unknown fields, its key, and then the faults of its values in the form that the key gives them.
+/// EmptyCondition at one without values.
+pub(crate) struct WhenEntry;
+
+impl Form for WhenEntry {
+    type Out = Condition;
+
+    ghost faults = { condition_faults };
+
+    ghost value = { condition_in };
+
+    #[tactic(auto, unfolding(crate::specs::Conditions::condition_faults, crate::specs::Conditions::condition_in))]
+    fn read(alloc: Global, v: &Value, at: &Spot) -> Result<Condition, DocError> {
+        let place = at.place(alloc)?;
+        only_fields(alloc, v, CONDITION_FIELDS, &place)?;
+        let key = required::<KeyName>(alloc, v, KEY, &place)?;
+        with_key(alloc, key, v, &place)
+    }
+}
+
+fn with_key(
+    alloc: Global,
+    key: ConditionKey,
+    v: &Value,
+    place: &Place,
+) -> Result<Condition, DocError>
+    ensures { Reads result
+        (conditions.values_faults key (view v.now) place.now)
+        (conditions.values_in key (view v.now)) }
+{
+    match key {
+        ConditionKey::Words(key) => {
+            let ValueLists { values, not_values } = both_lists::<ShortText>(alloc, v, place)?;
+            Ok(Condition::Words {
+                key,
+                values,
+                not_values,
+            })
+        }
+        ConditionKey::Principals => {
+            let ValueLists { values, not_values } = both_lists::<RequestPrincipal>(
+                alloc, v, place,
+            )?;
+            Ok(Condition::Words {
+                key: TextKey::AuthPrincipal,
+                values,
+                not_values,
+            })
+        }
+        ConditionKey::Blocks(key) => {
+            let ValueLists { values, not_values } = both_lists::<BlockValue>(alloc, v, place)?;
+            Ok(Condition::Blocks {
+                key,
+                values,
+                not_values,
+            })
+        }
+        ConditionKey::Ports => {
+            let ValueLists { values, not_values } = both_lists::<PortValue>(alloc, v, place)?;
+            Ok(Condition::Ports { values, not_values })
+        }
+    }
+}
+
+#[derive(Drop)]
+struct ValueLists<T> {
+    values: List<T>,
+    not_values: List<T>,
+}
+
+#[tactic(auto, unfolding(crate::specs::Conditions::both_faults))]
+fn both_lists<F: Form>(
+    alloc: Global,
+    v: &Value,
+    place: &Place,
+) -> Result<ValueLists<F::Out>, DocError>
+    ensures { Reads result
+        (conditions.both_faults F.faults F.value (view v.now) place.now)
+        (conditions.both_in F.value (view v.now)) }
+{
+    let values = listed::<F>(alloc, v, VALUES, MOST, place)?;
+    let not_values = listed::<F>(alloc, v, NOT_VALUES, MOST, place)?;
+    if values.as_slice().is_empty() && not_values.as_slice().is_empty() {
+        return Err(refuse(alloc, place, Reason::EmptyCondition));
+    }
+    Ok(ValueLists { values, not_values })
+}

@@ -1,0 +1,61 @@
+ghost use Rattle.policy_json.specs.Operations.{operation_faults, operation_in};
+
+use crate::texts::ShortText;
+use crate::values::{MOST, PathValue, PortValue};
+use mesh_doc::{DocError, Form, Spot, listed, only_fields};
+use mesh_policy::OperationSpec;
+use serde_json::Value;
+use std::alloc::Global;
+
+const OPERATION_FIELDS: &str = "hosts methods notHosts notMethods notPaths notPorts paths ports";
+
+const HOSTS: &str = "hosts";
+
+const NOT_HOSTS: &str = "notHosts";
+
+const PORTS: &str = "ports";
+
+const NOT_PORTS: &str = "notPorts";
+
+const METHODS: &str = "methods";
+
+const NOT_METHODS: &str = "notMethods";
+
+const PATHS: &str = "paths";
+
+const NOT_PATHS: &str = "notPaths";
+
+/// An operation: its unknown fields, and then the faults of its eight lists.
+pub(crate) struct Operation;
+
+impl Form for Operation {
+    type Out = OperationSpec;
+
+    ghost faults = { operation_faults };
+
+    ghost value = { operation_in };
+
+    #[tactic(auto, unfolding(crate::specs::Operations::operation_faults, crate::specs::Operations::operation_in))]
+    fn read(alloc: Global, v: &Value, at: &Spot) -> Result<OperationSpec, DocError> {
+        let place = at.place(alloc)?;
+        only_fields(alloc, v, OPERATION_FIELDS, &place)?;
+        let hosts = listed::<ShortText>(alloc, v, HOSTS, MOST, &place)?;
+        let not_hosts = listed::<ShortText>(alloc, v, NOT_HOSTS, MOST, &place)?;
+        let ports = listed::<PortValue>(alloc, v, PORTS, MOST, &place)?;
+        let not_ports = listed::<PortValue>(alloc, v, NOT_PORTS, MOST, &place)?;
+        let methods = listed::<ShortText>(alloc, v, METHODS, MOST, &place)?;
+        let not_methods = listed::<ShortText>(alloc, v, NOT_METHODS, MOST, &place)?;
+        let paths = listed::<PathValue>(alloc, v, PATHS, MOST, &place)?;
+        let not_paths = listed::<PathValue>(alloc, v, NOT_PATHS, MOST, &place)?;
+        Ok(OperationSpec {
+            hosts,
+            not_hosts,
+            ports,
+            not_ports,
+            methods,
+            not_methods,
+            paths,
+            not_paths,
+        })
+    }
+}

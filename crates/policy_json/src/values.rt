@@ -1,0 +1,143 @@
+ghost use Rattle.std.specs.Prelude.{◌≡◌};
+ghost use Rattle.mesh_doc.specs.Kinds.{text_in};
+ghost use Rattle.policy_json.specs.Peer.{port_of};
+ghost use Rattle.policy_json.specs.Values.{block_faults, block_in, has_few_slashes, has_operator, is_path, path_faults, port_value_faults, port_value_in, request_principal_faults};
+
+use crate::texts::{ShortText, is_short};
+use mesh_doc::{DocError, Form, Reason, Spot};
+use mesh_net::{Cidr, parse_cidr};
+use mesh_policy::Template;
+use mesh_text::{Text, contains, decimal};
+use serde_json::Value;
+use std::alloc::Global;
+
+/// The most entries that a list of a policy may have.
+pub(crate) const MOST: u32 = 2048;
+
+/// A port from 1 to 65,535, as a text of decimal digits without leading zeros: BadValue where the text has no allowed
+/// length, and BadPort for any other.
+pub(crate) struct PortValue;
+
+impl Form for PortValue {
+    type Out = u16;
+
+    ghost faults = { port_value_faults };
+
+    ghost value = { port_value_in };
+
+    #[tactic(auto, unfolding(crate::specs::Values::port_value_faults, crate::specs::Values::port_value_in, crate::specs::Texts::short_text_faults, mesh_doc::specs::Kinds::text_faults, mesh_doc::specs::Kinds::text_in))]
+    fn read(alloc: Global, v: &Value, at: &Spot) -> Result<u16, DocError> {
+        let Value::String(text) = v else {
+            return Err(at.refuse(alloc, Reason::WrongType));
+        };
+        if !is_short(text.as_str()) {
+            return Err(at.refuse(alloc, Reason::BadValue));
+        }
+        match port(text.as_str()) {
+            Some(port) => Ok(port),
+            None => Err(at.refuse(alloc, Reason::BadPort)),
+        }
+    }
+}
+
+fn port(text: &str) -> Option<u16>
+    ensures { result ≡ port_of text.now }
+{
+    match decimal(text) {
+        Some(port) if port > 0 => Some(port),
+        _ => None,
+    }
+}
+
+/// An address block: BadValue where the text has no allowed length, and BadCidr where it is no block.
+pub(crate) struct BlockValue;
+
+impl Form for BlockValue {
+    type Out = Cidr;
+
+    ghost faults = { block_faults };
+
+    ghost value = { block_in };
+
+    #[tactic(auto, unfolding(crate::specs::Values::block_faults, crate::specs::Values::block_in, crate::specs::Texts::short_text_faults, mesh_doc::specs::Kinds::text_faults, mesh_doc::specs::Kinds::text_in))]
+    fn read(alloc: Global, v: &Value, at: &Spot) -> Result<Cidr, DocError> {
+        let Value::String(text) = v else {
+            return Err(at.refuse(alloc, Reason::WrongType));
+        };
+        if !is_short(text.as_str()) {
+            return Err(at.refuse(alloc, Reason::BadValue));
+        }
+        match parse_cidr(text.as_str()) {
+            Some(block) => Ok(block),
+            None => Err(at.refuse(alloc, Reason::BadCidr)),
+        }
+    }
+}
+
+/// A request principal, `iss/sub`: BadValue where the text has no allowed length, and TooManySlashes where it has more
+/// than 8 slashes.
+pub(crate) struct RequestPrincipal;
+
+impl Form for RequestPrincipal {
+    type Out = Text;
+
+    ghost faults = { request_principal_faults };
+
+    ghost value = { text_in };
+
+    #[tactic(auto, unfolding(crate::specs::Values::request_principal_faults))]
+    fn read(alloc: Global, v: &Value, at: &Spot) -> Result<Text, DocError> {
+        let text = ShortText::read(alloc, v, at)?;
+        if !has_few_slashes(text.as_str()) {
+            return Err(at.refuse(alloc, Reason::TooManySlashes));
+        }
+        Ok(text)
+    }
+}
+
+fn has_few_slashes(text: &str) -> bool
+    ensures { result ≡ has_few_slashes text.now }
+{
+    let mut left: u32 = 8;
+    for c in text.as_bytes() {
+        if *c == b'/' {
+            if left == 0 {
+                return false;
+            }
+            left -= 1;
+        }
+    }
+    true
+}
+
+/// A path: BadValue where the text has no allowed length, and BadTemplate where it has an operator and is no template.
+pub(crate) struct PathValue;
+
+impl Form for PathValue {
+    type Out = Text;
+
+    ghost faults = { path_faults };
+
+    ghost value = { text_in };
+
+    #[tactic(auto, unfolding(crate::specs::Values::path_faults))]
+    fn read(alloc: Global, v: &Value, at: &Spot) -> Result<Text, DocError> {
+        let text = ShortText::read(alloc, v, at)?;
+        if !is_path(text.as_str()) {
+            return Err(at.refuse(alloc, Reason::BadTemplate));
+        }
+        Ok(text)
+    }
+}
+
+fn is_path(text: &str) -> bool
+    ensures { result ≡ is_path text.now }
+{
+    !has_operator(text) || Template::is_template(text)
+}
+
+fn has_operator(text: &str) -> bool
+    ensures { result ≡ has_operator text.now }
+{
+    contains("{*}", text) || contains("{**}", text)
+}

@@ -1,11 +1,15 @@
 pub mod Authorization
 pub mod ConditionKeys
 pub mod Conditions
+pub mod KeySets
 pub mod Labels
 pub mod Operations
 pub mod Peer
+pub mod Request
 pub mod Rules
 pub mod Sources
 pub mod Spec
+pub mod TargetRefs
 pub mod Texts
+pub mod TokenPlaces
 pub mod Values

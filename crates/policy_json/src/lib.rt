@@ -7,18 +7,28 @@ mod authorization;
 mod authorization_tests;
 mod condition_keys;
 mod conditions;
+mod jwt_rule;
+mod key_sets;
 mod labels;
 mod operations;
 mod peer;
 #[cfg(test)]
 mod refusal_tests;
+mod request;
+#[cfg(test)]
+mod request_tests;
+#[cfg(test)]
+mod rule_tests;
 mod rules;
 mod sources;
+mod target_refs;
 #[cfg(test)]
 mod tests;
 mod texts;
+mod token_places;
 mod values;
 
 pub use authorization::read_authorization;
 pub use labels::read_labels;
 pub use peer::read_peer;
+pub use request::read_request;

@@ -6,7 +6,7 @@ use serde_json::Value;
 use std::alloc::Global;
 use std::process::Abort;
 
-fn refused(rt: &impl Abort, alloc: Global, error: DocError) -> String {
+pub(crate) fn refused(rt: &impl Abort, alloc: Global, error: DocError) -> String {
     match error {
         DocError::Memory => format!(in alloc; "memory").expect(rt, "memory"),
         DocError::Fault(fault) => {
@@ -25,7 +25,7 @@ fn mode_word(mode: Option<Mode>) -> &'static str {
     }
 }
 
-fn write_labels(rt: &impl Abort, out: &mut String, labels: &List<Label>) {
+pub(crate) fn write_labels(rt: &impl Abort, out: &mut String, labels: &List<Label>) {
     for label in labels.as_slice() {
         write!(out, "{}={} ", label.key.as_str(), label.value.as_str()).expect(rt, "memory");
     }

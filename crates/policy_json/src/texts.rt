@@ -94,7 +94,7 @@ pub(crate) fn is_bounded(text: &str) -> bool
     text.len() <= 1024
 }
 
-fn is_name(text: &str) -> bool
+pub(crate) fn is_name(text: &str) -> bool
     ensures { result ≡ is_name text.now }
 {
     is_token(text) && is_bounded(text)

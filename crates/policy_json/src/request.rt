@@ -1,0 +1,68 @@
+ghost use Rattle.std.specs.Prelude.{◌≡◌, option_map};
+ghost use Rattle.serde_json.specs.View.{view};
+ghost use Rattle.mesh_doc.specs.Faults.{Reads};
+ghost use Rattle.policy_json.specs.Request.{request_faults, request_in};
+ghost use Rattle.policy_json.specs.Spec.{spec_of};
+
+use crate::jwt_rule::{MOST, RuleForm};
+use crate::labels::{SELECTOR, Selector};
+use crate::target_refs::no_targets;
+use mesh_doc::{DocError, Place, listed, only_fields, optional};
+use mesh_policy::RequestAuthentication;
+use mesh_text::{List, Text};
+use serde_json::{Map, Value};
+use std::alloc::Global;
+
+const REQUEST_FIELDS: &str = "jwtRules selector targetRef targetRefs";
+
+const JWT_RULES: &str = "jwtRules";
+
+/// The RequestAuthentication that the `spec` at `place` means (Istio reference, RequestAuthentication), or its first
+/// fault: UnknownField, WrongType, MissingField, BadName, BadValue, TargetRefs, JwtKeys, TooMany for a list of more
+/// than 2,048 entries. None stands for a `spec` that is not written or `null`.
+pub fn read_request(
+    alloc: Global,
+    name: Text,
+    namespace: Text,
+    spec: Option<&Value>,
+    place: &Place,
+) -> Result<RequestAuthentication, DocError>
+    ensures { Reads result
+        (request_faults (spec_of (option_map (λ v. view v.now) spec.entry)) place.now)
+        (request_in name namespace (spec_of (option_map (λ v. view v.now) spec.entry))) }
+{
+    match spec {
+        Some(v) => read_spec(alloc, name, namespace, v, place),
+        None => read_spec(
+            alloc,
+            name,
+            namespace,
+            &Value::Object(Map::new(alloc)),
+            place,
+        ),
+    }
+}
+
+#[tactic(auto, unfolding(crate::specs::Request::request_faults, crate::specs::Request::request_in))]
+fn read_spec(
+    alloc: Global,
+    name: Text,
+    namespace: Text,
+    v: &Value,
+    place: &Place,
+) -> Result<RequestAuthentication, DocError>
+    ensures { Reads result
+        (request_faults (view v.now) place.now)
+        (request_in name namespace (view v.now)) }
+{
+    only_fields(alloc, v, REQUEST_FIELDS, place)?;
+    let labels = optional::<Selector>(alloc, v, SELECTOR, place)?;
+    no_targets(alloc, v, place)?;
+    let rules = listed::<RuleForm>(alloc, v, JWT_RULES, MOST, place)?;
+    Ok(RequestAuthentication {
+        name,
+        namespace,
+        labels: labels.unwrap_or(List::new(alloc)),
+        rules,
+    })
+}

@@ -1,0 +1,98 @@
+ghost use Rattle.std.specs.Prelude.{◌≡◌, ◌++◌, IfOk};
+ghost use Rattle.policy_json.specs.TokenPlaces.{default_places, header_faults, header_in, param_faults, param_in, places_of};
+
+use crate::texts::{BoundedText, LowerName, ShortText};
+use mesh_doc::{DocError, Form, Spot, only_fields, optional, required};
+use mesh_policy::TokenPlace;
+use mesh_text::{List, Memory, Text};
+use serde_json::Value;
+use std::alloc::Global;
+
+const HEADER_FIELDS: &str = "name prefix";
+
+const NAME: &str = "name";
+
+const PREFIX: &str = "prefix";
+
+const AUTHORIZATION: &str = "authorization";
+
+const BEARER: &str = "Bearer ";
+
+const ACCESS_TOKEN: &str = "access_token";
+
+/// An entry of `fromHeaders`: a header, and the prefix before the token, which is empty where none is written.
+pub(crate) struct FromHeader;
+
+impl Form for FromHeader {
+    type Out = TokenPlace;
+
+    ghost faults = { header_faults };
+
+    ghost value = { header_in };
+
+    #[tactic(auto, unfolding(crate::specs::TokenPlaces::header_faults, crate::specs::TokenPlaces::header_in))]
+    fn read(alloc: Global, v: &Value, at: &Spot) -> Result<TokenPlace, DocError> {
+        let place = at.place(alloc)?;
+        only_fields(alloc, v, HEADER_FIELDS, &place)?;
+        let name = required::<LowerName>(alloc, v, NAME, &place)?;
+        let prefix = match optional::<BoundedText>(alloc, v, PREFIX, &place)? {
+            Some(prefix) => prefix,
+            None => Text::of(alloc, "")?,
+        };
+        Ok(TokenPlace::Header { name, prefix })
+    }
+}
+
+/// An entry of `fromParams`.
+pub(crate) struct FromParam;
+
+impl Form for FromParam {
+    type Out = TokenPlace;
+
+    ghost faults = { param_faults };
+
+    ghost value = { param_in };
+
+    #[tactic(auto, unfolding(crate::specs::TokenPlaces::param_faults, crate::specs::TokenPlaces::param_in))]
+    fn read(alloc: Global, v: &Value, at: &Spot) -> Result<TokenPlace, DocError> {
+        let name = ShortText::read(alloc, v, at)?;
+        Ok(TokenPlace::Param(name))
+    }
+}
+
+/// The places of a rule with these headers and parameters.
+pub(crate) fn places_of(
+    alloc: Global,
+    headers: List<TokenPlace>,
+    params: List<TokenPlace>,
+) -> Result<List<TokenPlace>, Memory>
+    ensures { IfOk result (λ places. places ≡ places_of headers params) }
+{
+    let places = joined(headers, params)?;
+    if places.as_slice().is_empty() {
+        return default_places(alloc);
+    }
+    Ok(places)
+}
+
+fn joined(headers: List<TokenPlace>, params: List<TokenPlace>) -> Result<List<TokenPlace>, Memory>
+    ensures { IfOk result (λ places. places ≡ headers ++ params) }
+{
+    let mut places = headers;
+    for param in params.into_vec() {
+        places.push(param)?;
+    }
+    Ok(places)
+}
+
+fn default_places(alloc: Global) -> Result<List<TokenPlace>, Memory>
+    ensures { IfOk result (λ places. places ≡ default_places) }
+{
+    let mut places = List::new(alloc);
+    places.push(TokenPlace::Header {
+        name: Text::of(alloc, AUTHORIZATION)?,
+        prefix: Text::of(alloc, BEARER)?,
+    })?;
+    places.push(TokenPlace::Param(Text::of(alloc, ACCESS_TOKEN)?))?;
+    Ok(places)
+}

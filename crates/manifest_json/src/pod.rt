@@ -1,0 +1,103 @@
+ghost use Rattle.std.specs.Prelude.{◌≡◌};
+ghost use Rattle.serde_json.specs.View.{view};
+ghost use Rattle.mesh_doc.specs.Faults.{Reads};
+ghost use Rattle.manifest_json.specs.PodItems.{container_faults, container_in, is_passed, named_port_faults, named_port_in, pod_faults, pod_in, pod_spec_faults, pod_spec_in};
+
+use crate::flat::{joined, kept};
+use crate::metadata::{METADATA, NAME, PodMeta};
+use crate::ports::{MOST_ENTRIES, PortNumber, has_other_protocol};
+use mesh_doc::{AnyText, DocError, Form, Place, Spot, field, listed, object, optional, required};
+use mesh_policy::{NamedPort, Pod};
+use mesh_text::List;
+use serde_json::Value;
+use std::alloc::Global;
+
+pub(crate) const SPEC: &str = "spec";
+
+pub(crate) const PORTS: &str = "ports";
+
+const CONTAINERS: &str = "containers";
+
+const CONTAINER_PORT: &str = "containerPort";
+
+/// The Pod that the item at `place` means (Kubernetes API reference, Pod v1), or its first fault: those of its
+/// metadata, and in its `spec` WrongType, MissingField, BadPort, and TooMany for a list of more than 2,048 entries.
+#[tactic(auto, unfolding(crate::specs::PodItems::pod_faults, crate::specs::PodItems::pod_in))]
+pub fn read_pod(alloc: Global, item: &Value, place: &Place) -> Result<Pod, DocError>
+    ensures { Reads result (pod_faults (view item.now) place.now) (pod_in (view item.now)) }
+{
+    object(alloc, item, place)?;
+    let metadata = required::<PodMeta>(alloc, item, METADATA, place)?;
+    let ports = optional::<PodSpec>(alloc, item, SPEC, place)?;
+    Ok(Pod {
+        name: metadata.names.name,
+        namespace: metadata.names.namespace,
+        labels: metadata.labels,
+        ports: ports.unwrap_or(List::new(alloc)),
+    })
+}
+
+struct PodSpec;
+
+impl Form for PodSpec {
+    type Out = List<NamedPort>;
+
+    ghost faults = { pod_spec_faults };
+
+    ghost value = { pod_spec_in };
+
+    #[tactic(auto, unfolding(crate::specs::PodItems::pod_spec_faults, crate::specs::PodItems::pod_spec_in))]
+    fn read(alloc: Global, v: &Value, at: &Spot) -> Result<List<NamedPort>, DocError> {
+        let place = at.place(alloc)?;
+        object(alloc, v, &place)?;
+        let containers = listed::<Container>(alloc, v, CONTAINERS, MOST_ENTRIES, &place)?;
+        Ok(joined(alloc, containers)?)
+    }
+}
+
+struct Container;
+
+impl Form for Container {
+    type Out = List<NamedPort>;
+
+    ghost faults = { container_faults };
+
+    ghost value = { container_in };
+
+    #[tactic(auto, unfolding(crate::specs::PodItems::container_faults, crate::specs::PodItems::container_in))]
+    fn read(alloc: Global, v: &Value, at: &Spot) -> Result<List<NamedPort>, DocError> {
+        let place = at.place(alloc)?;
+        object(alloc, v, &place)?;
+        let ports = listed::<ContainerPort>(alloc, v, PORTS, MOST_ENTRIES, &place)?;
+        Ok(kept(alloc, ports)?)
+    }
+}
+
+struct ContainerPort;
+
+impl Form for ContainerPort {
+    type Out = Option<NamedPort>;
+
+    ghost faults = { named_port_faults };
+
+    ghost value = { named_port_in };
+
+    #[tactic(auto, unfolding(crate::specs::PodItems::named_port_faults, crate::specs::PodItems::named_port_in))]
+    fn read(alloc: Global, v: &Value, at: &Spot) -> Result<Option<NamedPort>, DocError> {
+        let place = at.place(alloc)?;
+        object(alloc, v, &place)?;
+        if is_passed(v) {
+            return Ok(None);
+        }
+        let name = required::<AnyText>(alloc, v, NAME, &place)?;
+        let port = required::<PortNumber>(alloc, v, CONTAINER_PORT, &place)?;
+        Ok(Some(NamedPort { name, port }))
+    }
+}
+
+#[tactic(auto, unfolding(crate::specs::PodItems::is_passed))]
+fn is_passed(entry: &Value) -> bool
+    ensures { result ≡ is_passed (view entry.now) }
+{
+    has_other_protocol(entry) || field(entry, NAME).is_none()
+}

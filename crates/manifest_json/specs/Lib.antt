@@ -1,5 +1,11 @@
+pub mod BundleItems
 pub mod Flat
+pub mod ItemForms
+pub mod Keys
+pub mod KindTable
+pub mod MeshItems
 pub mod Metadata
 pub mod PodItems
+pub mod PolicyItems
 pub mod PortForms
 pub mod ServiceItems

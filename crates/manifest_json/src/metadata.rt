@@ -57,7 +57,7 @@ pub struct PeerMetadata {
     pub age: Option<Text>,
 }
 
-struct Name;
+pub(crate) struct Name;
 
 impl Form for Name {
     type Out = Text;
@@ -78,7 +78,7 @@ impl Form for Name {
     }
 }
 
-struct Namespace;
+pub(crate) struct Namespace;
 
 impl Form for Namespace {
     type Out = Text;

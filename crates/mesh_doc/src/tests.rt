@@ -51,31 +51,37 @@ impl Entry for NumberEntry {
     }
 }
 
-fn stands_in(earlier: &[u64], number: u64) -> bool
-    ensures { result ≡ list_any (λ n. n == number) earlier.now }
+fn stands_in(seen: &[u64], number: u64) -> bool
+    ensures { result ≡ list_any (λ n. n == number) seen.now }
 {
-    earlier.iter().any(|n| *n == number)
+    seen.iter().any(|n| *n == number)
 }
 
 // A number that no earlier entry is.
 struct Distinct;
 
 impl InTurn for Distinct {
+    ghost use Rattle.std.specs.Prelude.{◌∷◌, ◌++◌, []};
     ghost use Rattle.mesh_doc.specs.Faults.{demands, ◌▸◌};
     ghost use Rattle.mesh_doc.specs.Kinds.{number_faults, number_in};
     ghost use Rattle.mesh_doc.specs.declared.reason.Reason.TheVariants.{DuplicateItem};
 
     type Out = u64;
 
-    ghost faults = { λ earlier. number_faults ▸ demands (λ d. not (list_any (λ n. n == number_in d) earlier)) DuplicateItem };
+    type Seen = List<u64>;
+
+    ghost faults = { λ seen. number_faults ▸ demands (λ d. not (list_any (λ n. n == number_in d) seen)) DuplicateItem };
 
     ghost value = { number_in };
 
-    fn read(alloc: Global, earlier: &[u64], v: &Value, at: &Spot) -> Result<u64, DocError> {
+    ghost after = { λ seen d. seen ++ number_in d ∷ [] };
+
+    fn read(alloc: Global, seen: &mut List<u64>, v: &Value, at: &Spot) -> Result<u64, DocError> {
         let number = AnyNumber::read(alloc, v, at)?;
-        if stands_in(earlier, number) {
+        if stands_in(seen.as_slice(), number) {
             return Err(at.refuse(alloc, Reason::DuplicateItem));
         }
+        seen.push(number)?;
         Ok(number)
     }
 }
@@ -192,9 +198,13 @@ fn kinds_are_read(rt: &impl Abort, alloc: Global, v: &Value, whole: &Place) {
 fn entries_are_read(rt: &impl Abort, alloc: Global, v: &Value, whole: &Place) {
     let numbers = entries::<AnyNumber>(alloc, part(rt, v, "l"), 3, whole).expect(rt, "numbers");
     assert_eq!(rt; numbers.as_slice(), [1, 2, 3].as_slice());
-    let numbers = entries_in_turn::<Distinct>(alloc, part(rt, v, "l"), 3, whole).expect(
-        rt, "numbers",
-    );
+    let numbers = entries_in_turn::<Distinct>(
+        alloc,
+        List::new(alloc),
+        part(rt, v, "l"),
+        3,
+        whole,
+    ).expect(rt, "numbers");
     assert_eq!(rt; numbers.as_slice(), [1, 2, 3].as_slice());
 }
 
@@ -253,7 +263,7 @@ fn earlier_entries_count(rt: HostRuntime) {
         let outcome = told(
             &rt,
             rt.alloc(),
-            listed_in_turn::<Distinct>(rt.alloc(), &v, "l", 4, &whole),
+            listed_in_turn::<Distinct>(rt.alloc(), List::new(rt.alloc()), &v, "l", 4, &whole),
         );
         assert_eq!(rt; outcome.as_str(), want, "{text}");
     }

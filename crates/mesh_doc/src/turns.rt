@@ -1,4 +1,4 @@
-ghost use Rattle.std.specs.Prelude.{◌<◌, ◌^◌, List, [], length};
+ghost use Rattle.std.specs.Prelude.{◌<◌, ◌^◌, ◌≡◌, OnOk, length};
 ghost use Rattle.serde_json.specs.Data.{Data};
 ghost use Rattle.serde_json.specs.View.{items_view, view};
 ghost use Rattle.mesh_doc.specs.Faults.{Check, Reads};
@@ -10,59 +10,69 @@ use mesh_text::List as Entries;
 use serde_json::Value;
 use std::alloc::Global;
 
-/// A form of the entries of a list of which one can be at fault for what an earlier one means, as a second entry of
-/// one name: as a `Form`, with the earlier entries beside the value.
+/// A form of the entries of a list of which one can be at fault for what stands before it, as a second entry of one
+/// name: as a `Form`, with a state that keeps what later entries have to know of the earlier ones.
 pub trait InTurn {
     type Out: Drop;
 
-    ghost faults: { List Self.Out → Check };
+    type Seen: Drop;
+
+    ghost faults: { Self.Seen → Check };
 
     ghost value: { Data → Self.Out };
 
-    /// The value of the entry `v` at `at`, behind those of `earlier`, or its first fault.
+    ghost after: { Self.Seen → Data → Self.Seen };
+
+    /// The value of the entry `v` at `at`, behind those that `seen` keeps, or its first fault. A value is kept too.
     fn read(
         alloc: Global,
-        earlier: &[Self::Out],
+        seen: &mut Self::Seen,
         v: &Value,
         at: &Spot,
     ) -> Result<Self::Out, DocError>
-        ensures { Reads result (faults earlier.now (view v.now) at.now) (value (view v.now)) };
+        ensures reads { Reads result (faults seen.old (view v.now) at.now) (value (view v.now)) }
+        ensures seen { OnOk result (seen.new ≡ after seen.old (view v.now)) };
 }
 
-/// The entries of the list in the field `name` of the object `v` at `place`, as by `listed`, each read with those
-/// before it at hand.
+/// The entries of the list in the field `name` of the object `v` at `place`, as by `listed`, each read behind what
+/// `seen` and the entries before it have.
 #[tactic(auto, unfolding(crate::specs::Turns::listed_in_turn, crate::specs::Lists::listed_in, crate::specs::Fields::optional))]
 pub fn listed_in_turn<F: InTurn>(
     alloc: Global,
+    seen: F::Seen,
     v: &Value,
     name: &str,
     most: u32,
     place: &Place,
 ) -> Result<Entries<F::Out>, DocError>
     ensures { Reads result
-        (turns.listed_in_turn name.now most F.faults F.value (view v.now) place.now)
+        (turns.listed_in_turn name.now most F.faults F.after seen (view v.now) place.now)
         (lists.listed_in name.now F.value (view v.now)) }
 {
     match field(v, name) {
-        Some(found) => entries_in_turn::<F>(alloc, found, most, &below_key(alloc, place, name)?),
+        Some(found) => {
+            entries_in_turn::<F>(alloc, seen, found, most, &below_key(alloc, place, name)?)
+        }
         None => Ok(Entries::new(alloc)),
     }
 }
 
-/// The entries of the list `v` at `place`, as by `entries`, each read with those before it at hand.
+/// The entries of the list `v` at `place`, as by `entries`, each read behind what `seen` and the entries before it
+/// have.
 #[tactic(auto, unfolding(crate::specs::Turns::list_in_turn, crate::specs::Lists::list_in, crate::specs::Kinds::list_faults))]
 pub fn entries_in_turn<F: InTurn>(
     alloc: Global,
+    seen: F::Seen,
     v: &Value,
     most: u32,
     place: &Place,
 ) -> Result<Entries<F::Out>, DocError>
     ensures { Reads result
-        (turns.list_in_turn most F.faults F.value (view v.now) place.now)
+        (turns.list_in_turn most F.faults F.after seen (view v.now) place.now)
         (lists.list_in F.value (view v.now)) }
 {
     match v {
-        Value::Array(items) => short_list::<F>(alloc, items.as_slice(), most, place),
+        Value::Array(items) => short_list::<F>(alloc, seen, items.as_slice(), most, place),
         _ => Err(refuse(alloc, place, Reason::WrongType)),
     }
 }
@@ -70,34 +80,36 @@ pub fn entries_in_turn<F: InTurn>(
 #[tactic(auto, using(crate::proofs::Counts::count_of_items))]
 fn short_list<F: InTurn>(
     alloc: Global,
+    seen: F::Seen,
     items: &[Value],
     most: u32,
     place: &Place,
 ) -> Result<Entries<F::Out>, DocError>
     ensures { Reads result
-        (turns.entries_in_turn most F.faults F.value (items_view items.now) place.now)
+        (turns.entries_in_turn most F.faults F.after seen (items_view items.now) place.now)
         (lists.each_in F.value (items_view items.now)) }
 {
     if items.len() > most as usize {
         return Err(refuse(alloc, place, Reason::TooMany));
     }
-    each::<F>(alloc, items, place)
+    each::<F>(alloc, seen, items, place)
 }
 
 fn each<F: InTurn>(
     alloc: Global,
+    seen: F::Seen,
     items: &[Value],
     place: &Place,
 ) -> Result<Entries<F::Out>, DocError>
     requires { length items.now < 2 ^ 32 }
     ensures { Reads result
-        (turns.each_in_turn F.faults F.value [] 0 (items_view items.now) place.now)
+        (turns.each_in_turn F.faults F.after seen 0 (items_view items.now) place.now)
         (lists.each_in F.value (items_view items.now)) }
 {
+    let mut seen = seen;
     let mut all = Entries::new(alloc);
     for (i, v) in items.iter().enumerate() {
-        let entry = F::read(alloc, all.as_slice(), v, &Spot::index(place, i as u32))?;
-        all.push(entry)?;
+        all.push(F::read(alloc, &mut seen, v, &Spot::index(place, i as u32))?)?;
     }
     Ok(all)
 }

@@ -1,0 +1,134 @@
+ghost use Rattle.std.specs.Prelude.{◌≡◌, Some, OnOk, IfOk, IsTrue};
+ghost use Rattle.serde_json.specs.View.{view};
+ghost use Rattle.mesh_doc.specs.Faults.{Reads};
+ghost use Rattle.manifest_json.specs.ItemForms as forms;
+
+use crate::key::{ItemKey, Kind, note_item};
+use crate::kind_table::kind_of;
+use crate::mesh_config::read_mesh_item;
+use crate::pod::read_pod;
+use crate::policy_items::{read_authorization_item, read_peer_item, read_request_item};
+use crate::seen::Seen;
+use crate::service::read_service;
+use mesh_doc::{AnyText, DocError, Place, Reason, Spot, object, required};
+use mesh_policy::{
+    AuthorizationPolicy, MeshConfig, PeerAuthentication, Pod, RequestAuthentication, Service,
+};
+use mesh_text::{Memory, Text};
+use serde_json::Value;
+use std::alloc::Global;
+
+const API_VERSION: &str = "apiVersion";
+
+pub(crate) const KIND: &str = "kind";
+
+/// What one item of a document means.
+#[derive(Debug, Drop, PartialEq, Eq)]
+pub enum Item {
+    Pod(Pod),
+    Service(Service),
+    Authorization(AuthorizationPolicy),
+    Peer(PeerAuthentication),
+    Request(RequestAuthentication),
+    Mesh(MeshConfig),
+    /// Passed over.
+    Other,
+}
+
+/// The item `v` at `at`, or its first fault: WrongType or MissingField where it is no object with the texts
+/// `apiVersion` and `kind`, WrongKind where a known group has no such kind, and those of its kind.
+#[tactic(auto, unfolding(crate::specs::ItemForms::item_faults, crate::specs::ItemForms::item_in, crate::specs::ItemForms::heading_faults, crate::specs::ItemForms::kind_in))]
+pub(crate) fn read_item(alloc: Global, v: &Value, at: &Spot) -> Result<Item, DocError>
+    ensures { Reads result (forms.item_faults (view v.now) at.now) (forms.item_in (view v.now)) }
+{
+    let place = at.place(alloc)?;
+    object(alloc, v, &place)?;
+    let version = required::<AnyText>(alloc, v, API_VERSION, &place)?;
+    let kind = required::<AnyText>(alloc, v, KIND, &place)?;
+    match kind_of(version.as_str(), kind.as_str()) {
+        Some(kind) => read_kind(alloc, kind, v, &place),
+        None => Err(Spot::key(&place, KIND).refuse(alloc, Reason::WrongKind)),
+    }
+}
+
+#[tactic(auto, unfolding(crate::specs::ItemForms::kind_faults, crate::specs::ItemForms::kind_value))]
+fn read_kind(alloc: Global, kind: Kind, v: &Value, place: &Place) -> Result<Item, DocError>
+    ensures { Reads result
+        (forms.kind_faults kind (view v.now) place.now)
+        (forms.kind_value kind (view v.now)) }
+{
+    match kind {
+        Kind::Pod => Ok(Item::Pod(read_pod(alloc, v, place)?)),
+        Kind::Service => Ok(Item::Service(read_service(alloc, v, place)?)),
+        Kind::Authorization => Ok(Item::Authorization(read_authorization_item(alloc, v, place)?)),
+        Kind::Peer => Ok(Item::Peer(read_peer_item(alloc, v, place)?)),
+        Kind::Request => Ok(Item::Request(read_request_item(alloc, v, place)?)),
+        Kind::Mesh => Ok(Item::Mesh(read_mesh_item(alloc, v, place)?)),
+        Kind::Other => Ok(Item::Other),
+    }
+}
+
+/// The item `v` at `at` behind those that `seen` keeps, or its first fault: DuplicateItem for one of an earlier item's
+/// kind, namespace and name, and for a second MeshConfig. It is kept too.
+#[tactic(auto, unfolding(crate::specs::ItemForms::next_faults, crate::specs::ItemForms::after_item))]
+pub(crate) fn read_next(
+    alloc: Global,
+    seen: &mut Seen<ItemKey>,
+    v: &Value,
+    at: &Spot,
+) -> Result<Item, DocError>
+    ensures reads { Reads result
+        (forms.next_faults seen.old (view v.now) at.now)
+        (forms.item_in (view v.now)) }
+    ensures seen { OnOk result (seen.new ≡ forms.after_item seen.old (view v.now)) }
+{
+    let item = read_item(alloc, v, at)?;
+    if !note_next(seen, key_of(alloc, &item)?)? {
+        return Err(at.refuse(alloc, Reason::DuplicateItem));
+    }
+    Ok(item)
+}
+
+fn note_next(seen: &mut Seen<ItemKey>, key: Option<ItemKey>) -> Result<bool, Memory>
+    ensures new { IfOk result (λ is_new. is_new ≡ forms.is_new seen.old key) }
+    ensures kept { IfOk result (λ is_new. IsTrue is_new → seen.new ≡ forms.seen_with seen.old key) }
+{
+    match key {
+        Some(key) => note_item(seen, key),
+        None => Ok(true),
+    }
+}
+
+#[tactic(auto, unfolding(crate::specs::ItemForms::key_of))]
+fn key_of(alloc: Global, item: &Item) -> Result<Option<ItemKey>, Memory>
+    ensures { IfOk result (λ key. key ≡ forms.key_of item.now) }
+{
+    match item {
+        Item::Pod(pod) => key(alloc, Kind::Pod, &pod.namespace, &pod.name),
+        Item::Service(service) => key(alloc, Kind::Service, &service.namespace, &service.name),
+        Item::Authorization(policy) => key(
+            alloc,
+            Kind::Authorization,
+            &policy.namespace,
+            &policy.name,
+        ),
+        Item::Peer(policy) => key(alloc, Kind::Peer, &policy.namespace, &policy.name),
+        Item::Request(policy) => key(alloc, Kind::Request, &policy.namespace, &policy.name),
+        Item::Mesh(_) => Ok(Some(ItemKey {
+            kind: Kind::Mesh,
+            namespace: Text::of(alloc, "")?,
+            name: Text::of(alloc, "")?,
+        })),
+        Item::Other => Ok(None),
+    }
+}
+
+fn key(alloc: Global, kind: Kind, namespace: &Text, name: &Text) -> Result<Option<ItemKey>, Memory>
+    ensures { IfOk result (λ key. key ≡ Some (record { kind = kind; namespace = namespace.now; name = name.now })) }
+{
+    Ok(Some(ItemKey {
+        kind,
+        namespace: namespace.copy(alloc)?,
+        name: name.copy(alloc)?,
+    }))
+}

@@ -1,0 +1,84 @@
+ghost use Rattle.serde_json.specs.View.{view};
+ghost use Rattle.mesh_doc.specs.Faults.{Reads};
+ghost use Rattle.manifest_json.specs.PolicyItems.{authorization_item_faults, authorization_item_in, peer_item_faults, peer_item_in, request_item_faults, request_item_in};
+
+use crate::metadata::{AuthorizationMeta, METADATA, PeerMeta, PlainMeta};
+use crate::pod::SPEC;
+use mesh_doc::{DocError, Place, below_key, field, object, required};
+use mesh_policy::{AuthorizationPolicy, PeerAuthentication, RequestAuthentication};
+use policy_json::{read_authorization, read_peer, read_request};
+use serde_json::Value;
+use std::alloc::Global;
+
+/// The AuthorizationPolicy that the item at `place` means, or its first fault: those of its metadata, and then those
+/// of its `spec`.
+#[tactic(auto, unfolding(crate::specs::PolicyItems::authorization_item_faults, crate::specs::PolicyItems::authorization_item_in))]
+pub(crate) fn read_authorization_item(
+    alloc: Global,
+    item: &Value,
+    place: &Place,
+) -> Result<AuthorizationPolicy, DocError>
+    ensures { Reads result
+        (authorization_item_faults (view item.now) place.now)
+        (authorization_item_in (view item.now)) }
+{
+    object(alloc, item, place)?;
+    let names = required::<AuthorizationMeta>(alloc, item, METADATA, place)?;
+    let below = below_key(alloc, place, SPEC)?;
+    read_authorization(
+        alloc,
+        names.name,
+        names.namespace,
+        field(item, SPEC),
+        &below,
+    )
+}
+
+/// The PeerAuthentication that the item at `place` means, or its first fault: those of its metadata, and then those
+/// of its `spec`.
+#[tactic(auto, unfolding(crate::specs::PolicyItems::peer_item_faults, crate::specs::PolicyItems::peer_item_in))]
+pub(crate) fn read_peer_item(
+    alloc: Global,
+    item: &Value,
+    place: &Place,
+) -> Result<PeerAuthentication, DocError>
+    ensures { Reads result
+        (peer_item_faults (view item.now) place.now)
+        (peer_item_in (view item.now)) }
+{
+    object(alloc, item, place)?;
+    let metadata = required::<PeerMeta>(alloc, item, METADATA, place)?;
+    let below = below_key(alloc, place, SPEC)?;
+    read_peer(
+        alloc,
+        metadata.names.name,
+        metadata.names.namespace,
+        metadata.age,
+        field(item, SPEC),
+        &below,
+    )
+}
+
+/// The RequestAuthentication that the item at `place` means, or its first fault: those of its metadata, and then
+/// those of its `spec`.
+#[tactic(auto, unfolding(crate::specs::PolicyItems::request_item_faults, crate::specs::PolicyItems::request_item_in))]
+pub(crate) fn read_request_item(
+    alloc: Global,
+    item: &Value,
+    place: &Place,
+) -> Result<RequestAuthentication, DocError>
+    ensures { Reads result
+        (request_item_faults (view item.now) place.now)
+        (request_item_in (view item.now)) }
+{
+    object(alloc, item, place)?;
+    let names = required::<PlainMeta>(alloc, item, METADATA, place)?;
+    let below = below_key(alloc, place, SPEC)?;
+    read_request(
+        alloc,
+        names.name,
+        names.namespace,
+        field(item, SPEC),
+        &below,
+    )
+}

@@ -1,6 +1,7 @@
 -- The keys of conditions (Istio reference, "Authorization Policy Conditions").
-use Rattle.std.specs.Prelude.{ℕ, ◌+◌, ◌==◌, Bool, ◌&&◌, nat_le, List, [], ◌∷◌, length, map, Option, Some, None, is_some, unwrap_or, if◌then◌else◌}
+use Rattle.std.specs.Prelude.{ℕ, ◌+◌, ◌==◌, Bool, ◌&&◌, nat_le, List, [], ◌∷◌, length, map, Option, Some, None, is_some, option_map, unwrap_or, if◌then◌else◌}
 use Rattle.std.specs.List.{after_first, before_first, list_all, slice_split}
+use Rattle.std.specs.Option.{option_or}
 use Rattle.std.specs.Str.{bytes_eq}
 use Rattle.serde_json.specs.Data.{Data}
 use Rattle.mesh_doc.specs.Faults.{Check, ◌▸◌, demands}
@@ -56,19 +57,11 @@ bracketed_key_of t = bracketed_key (before_first (λ c. c == 91) t) (names_of (a
 
 -- ---- all keys, by the form of their values
 
-abbrev pub words_or : Option ConditionKey → Option TextKey → Option ConditionKey
-words_or other None = other
-words_or other (Some key) = Some (Words key)
-
-abbrev pub blocks_or : Option ConditionKey → Option BlockKey → Option ConditionKey
-blocks_or other None = other
-blocks_or other (Some key) = Some (Blocks key)
-
 abbrev pub known_key_of : List ℕ → Option ConditionKey
 known_key_of t =
     if bytes_eq t AUTH_PRINCIPAL.now then Some Principals
     else (if bytes_eq t DESTINATION_PORT.now then Some Ports
-    else blocks_or (words_or (words_or None (bracketed_key_of t)) (text_key_of t)) (block_key_of t))
+    else option_or (option_map Blocks (block_key_of t)) (option_map Words (option_or (text_key_of t) (bracketed_key_of t))))
 
 -- the key of that name, of at most 1,024 bytes
 abbrev pub key_of : List ℕ → Option ConditionKey

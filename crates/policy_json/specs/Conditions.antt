@@ -1,5 +1,5 @@
 -- The conditions of a rule (Istio reference, "Authorization Policy": Condition).
-use Rattle.std.specs.Prelude.{ℕ, ◌==◌, Bool, ◌&&◌, not, List, length}
+use Rattle.std.specs.Prelude.{◌==◌, Bool, ◌&&◌, not, length}
 use Rattle.serde_json.specs.Data.{Data}
 use Rattle.mesh_doc.specs.Faults.{Check, ◌⨾◌, ◌▸◌, demands}
 use Rattle.mesh_doc.specs.Fields.{strict, required, required_in}

@@ -1,6 +1,6 @@
 -- The values of the lists of an AuthorizationPolicy (Istio reference, "Authorization Policy": Source, Operation,
 -- Condition). Each is a text of 1 to 1,024 bytes. What is kept of it is the text as written, a port or a block.
-use Rattle.std.specs.Prelude.{ℕ, ◌==◌, Bool, ◌||◌, not, nat_le, List, count_by, codes, Option, is_some, unwrap_or, refl}
+use Rattle.std.specs.Prelude.{ℕ, ◌==◌, Bool, ◌||◌, not, nat_le, List, count_by, codes, is_some, unwrap_or, refl}
 use Rattle.serde_json.specs.Data.{Data}
 use Rattle.mesh_doc.specs.Faults.{Check, ◌▸◌, demands}
 use Rattle.mesh_doc.specs.Kinds.{text_in}

@@ -1,7 +1,9 @@
-//! The readers of the manifests of a mesh: each answers what an item means, or the first of its faults in reading
-//! order (Kubernetes API reference; Istio reference; docs/FORMATS.md has the forms).
+//! The reader of the manifests of a mesh: it answers the bundle that a document means, or the first of its faults in
+//! reading order (Kubernetes API reference; Istio reference; docs/FORMATS.md has the forms).
 #![tactic(auto)]
 
+#[cfg(test)]
+mod bundle_tests;
 mod document;
 mod flat;
 mod gather;
@@ -23,10 +25,3 @@ mod service;
 mod told;
 
 pub use document::read_bundle;
-pub use mesh_config::read_mesh_config;
-pub use metadata::{
-    Names, PeerMetadata, PodMetadata, read_authorization_metadata, read_names, read_peer_metadata,
-    read_plain_metadata, read_pod_metadata,
-};
-pub use pod::read_pod;
-pub use service::read_service;

@@ -1,6 +1,7 @@
 //! What an item says, in a line of text: for tests.
 use crate::metadata::{AuthorizationMeta, METADATA, PeerMeta, PlainMeta};
-use crate::{read_pod, read_service};
+use crate::pod::read_pod;
+use crate::service::read_service;
 use mesh_doc::{DocError, Place, place_text, required};
 use mesh_policy::{Label, Pod, Service, Target};
 use mesh_text::{List, Text};

@@ -63,7 +63,10 @@ fn broken_manifests(rt: HostRuntime) -> Result<(), Fail> {
         ("", "refused: input: NotJson\n"),
         (r#"{"kind":"List""#, "refused: input: NotJson\n"),
         ("[]", "refused: $: NotAList\n"),
-        (r#"{"kind":"List","items":{}}"#, "refused: $/items: NotAList\n"),
+        (
+            r#"{"kind":"List","items":{}}"#,
+            "refused: $/items: NotAList\n",
+        ),
         (
             r#"{"kind":"List","items":[null]}"#,
             "refused: $/items/0: WrongType\n",
@@ -97,7 +100,10 @@ fn broken_manifests(rt: HostRuntime) -> Result<(), Fail> {
         assert_eq!(rt; line(alloc, input)?.as_str(), want, "{input}");
     }
     for (spec, want) in [
-        (r#"{"a/b~\u0001":1}"#, "refused: $/spec/a~1b~0?: UnknownField\n"),
+        (
+            r#"{"a/b~\u0001":1}"#,
+            "refused: $/spec/a~1b~0?: UnknownField\n",
+        ),
         (r#"{"action":"CUSTOM"}"#, "refused: $/spec: ProviderRule\n"),
         (
             r#"{"rules":[{"when":[{"key":"source.ip"}]}]}"#,
@@ -139,8 +145,7 @@ fn limits(rt: HostRuntime) -> Result<(), Fail> {
         (4096, "refused: $/items: TooMany\n"),
     ] {
         let events = repeat(alloc, event, count)?;
-        let input = format!(
-            in alloc;
+        let input = format!(in alloc;
             "{{\"kind\":\"List\",\"items\":[{events}{{\"apiVersion\":\"v1\",\"kind\":\"Event\"}}]}}"
         )?;
         assert_eq!(rt; line(alloc, input.as_str())?.as_str(), want);
@@ -156,8 +161,7 @@ fn limits(rt: HostRuntime) -> Result<(), Fail> {
         ),
     ] {
         let path = repeat(alloc, "a", count)?;
-        let spec = format!(
-            in alloc;
+        let spec = format!(in alloc;
             "{{\"rules\":[{{\"to\":[{{\"operation\":{{\"paths\":[\"{path}\"]}}}}]}}]}}"
         )?;
         let input = policy(alloc, spec.as_str())?;

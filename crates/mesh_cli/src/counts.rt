@@ -30,7 +30,11 @@ pub fn counts_text(alloc: Global, bundle: &Bundle) -> Result<String, Memory>
     let mut text = String::from_str(alloc, ACCEPTED)?;
     push_count(&mut text, PODS, bundle.pods.as_slice().len())?;
     push_count(&mut text, SERVICES, bundle.services.as_slice().len())?;
-    push_count(&mut text, AUTHORIZATION, bundle.authorization.as_slice().len())?;
+    push_count(
+        &mut text,
+        AUTHORIZATION,
+        bundle.authorization.as_slice().len(),
+    )?;
     push_count(&mut text, PEER, bundle.peers.as_slice().len())?;
     push_count(&mut text, REQUEST, bundle.requests.as_slice().len())?;
     push_count(&mut text, MESH, bundle.mesh_items as usize)?;

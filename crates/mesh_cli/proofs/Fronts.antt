@@ -6,10 +6,7 @@ use Rattle.std.proofs.Math.Seq.{take-append-add}
 use Rattle.std.specs.Io.KnownBytes.{Appends}
 use Rattle.mesh_edge.specs.Causes.{Rose}
 use Rattle.mesh_edge.specs.Progress.{TakesFront}
-use Rattle.mesh_cli.specs.Answer.{newline, refusal_line}
-use Rattle.mesh_cli.specs.Command.{pod_at}
 use Rattle.mesh_cli.specs.Notes.{Notes}
-use Rattle.mesh_cli.specs.declared.refusal.Refusal.TheVariants.{NoWorkload}
 
 pub front-more : (a b : Option (List ℕ)) (xs ys : List ℕ) → TakesFront a b xs → TakesFront a b (xs ++ ys)
 front-more a b xs ys (n, fits, taken) =
@@ -29,10 +26,3 @@ pub noted : {E : Type 0} (r : Result (Unit {0}) E) (faults faults' : ℕ) (taken
     → OnOk r (Appends taken taken' line) → OnErr r (Rose faults faults') → TakesFront taken taken' line → Notes faults faults' taken taken' line
 noted (Ok x) faults faults' taken taken' line ok fault front = record { whole = λ quiet. ok; front = front }
 noted (Err e) faults faults' taken taken' line ok fault front = record { whole = λ quiet. absurd (quiet fault); front = front }
-
-no-workload : (r namespace slash name colon word end : List ℕ) → r ++ namespace ++ slash ++ (name ++ (colon ++ word ++ end)) ≡ r ++ (namespace ++ slash ++ name) ++ colon ++ word ++ end
-no-workload r namespace slash name colon word end = simp append_assoc
-
--- the line of a Pod that isn't there, by its pieces
-pub no-workload-line : (namespace name : List ℕ) → codes "refused: " ++ namespace ++ codes "/" ++ (name ++ codes ": NoWorkload\n") ≡ refusal_line (pod_at namespace name) NoWorkload
-no-workload-line namespace name = no-workload (codes "refused: ") namespace (codes "/") name (codes ": ") (codes "NoWorkload") newline

@@ -4,28 +4,28 @@ use Rattle.std.proofs.lemmas.Bool.{lt-ltb}
 use Rattle.std.proofs.lemmas.List.{append-nil, length-append}
 use Rattle.std.specs.Io.KnownBytes.{Consumes, IsAtEnd, Keeps}
 use Rattle.mesh_edge.specs.Progress.{TakesCount}
-use Rattle.mesh_cli.specs.declared.refusal.Refusal.TheVariants.{TooLong}
-use Rattle.mesh_cli.specs.Answer.{refuses, answer_of, answer_to, document_of, max_input}
-use Rattle.mesh_cli.specs.Command.{PodName}
+use Rattle.mesh_cli.specs.Answer.{Answer, answer_of, answer_to, document_of, max_input}
+use Rattle.mesh_cli.specs.Answer as answer
+use Rattle.mesh_cli.specs.Command.{Command}
 use Rattle.mesh_cli.specs.Ends.{Answers}
 
-long : (name : PodName) (bytes : List ℕ) → max_input < length bytes → answer_of name bytes ≡ refuses TooLong
+long : (command : Command) (bytes : List ℕ) → max_input < length bytes → answer_of command bytes ≡ answer.too_long
 unfolding answer_of
-long name bytes h = ap (λ (above : Bool). cond above (refuses TooLong) (answer_to name (document_of bytes))) (lt-ltb max_input (length bytes) h)
+long command bytes h = ap (λ (above : Bool). cond above answer.too_long (answer_to command (document_of bytes))) (lt-ltb max_input (length bytes) h)
 
-whole-long : (name : PodName) (left left' : Option (List ℕ)) (bytes : List ℕ) → Consumes left left' bytes → max_input < length bytes
-    → IfSome left (λ all. answer_of name all ≡ refuses TooLong)
-whole-long name None left' bytes taken h = tt
-whole-long name (Some all) None bytes taken h = absurd taken
-whole-long name (Some all) (Some rest) bytes taken h =
+whole-long : (command : Command) (left left' : Option (List ℕ)) (bytes : List ℕ) → Consumes left left' bytes → max_input < length bytes
+    → IfSome left (λ all. answer_of command all ≡ answer.too_long)
+whole-long command None left' bytes taken h = tt
+whole-long command (Some all) None bytes taken h = absurd taken
+whole-long command (Some all) (Some rest) bytes taken h =
     let more : max_input < length all = omega (arith, ap length taken, length-append bytes rest) in
-    long name all more
+    long command all more
 
 -- more than the limit was left
-pub too-long : (name : PodName) (left left' : Option (List ℕ)) → TakesCount left left' (max_input + 1) → Answers name left left' (refuses TooLong)
-too-long name left left' (bytes, taken, count) =
+pub too-long : (command : Command) (left left' : Option (List ℕ)) → TakesCount left left' (max_input + 1) → Answers command left left' answer.too_long
+too-long command left left' (bytes, taken, count) =
     let above : max_input < length bytes = omega arith in
-    record { bytes = bytes; taken = taken; gives = long name bytes above; whole = whole-long name left left' bytes taken above }
+    record { bytes = bytes; taken = taken; gives = long command bytes above; whole = whole-long command left left' bytes taken above }
 
 -- the bytes that are told are those that were read to the end
 pub same-bytes : (left left' : Option (List ℕ)) (read bytes : List ℕ) → left ≡ Some bytes → Consumes left left' read → IsAtEnd left' → read ≡ bytes

@@ -1,5 +1,5 @@
 mod Booleans
-mod Buildable
+mod Builds
 mod Enforced
 mod Fronts
 mod Inputs

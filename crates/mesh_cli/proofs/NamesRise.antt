@@ -15,7 +15,7 @@ use Rattle.mesh_policy.specs.declared.policy.Rule.{Rule}
 use Rattle.mesh_policy.specs.Applies.{applies}
 use Rattle.envoy_types.specs.Rules.{is_below, names_rise}
 use Rattle.mesh_cli.specs.Built.{are_buildable, has_few_rules, rule_name, rule_policies, policies_of}
-use Rattle.mesh_cli.proofs.Booleans.{both, left_of}
+use Rattle.mesh_cli.proofs.Booleans.{both, left_of, right_of}
 
 same : (x : ℕ) → nat_cmp x x ≡ Equal
 same x = sym (nat_cmp_is x x Equal refl)
@@ -68,7 +68,7 @@ rules-rise policy k (rule ∷ rules) few =
 one-rises : (policy : AuthorizationPolicy) (chosen : Bool) → has_few_rules policy ≡ true → names_rise (policies_of (cond chosen (policy ∷ []) [])) ≡ true
 one-rises policy false h = refl
 one-rises policy true h =
-    let few : length policy.rules ≤ 8 = leb-true _ _ (left_of _ _ h) in
+    let few : length policy.rules ≤ 8 = leb-true _ _ (left_of _ _ (right_of _ _ h)) in
     let fits : 0 + length policy.rules ≤ 10 = omega arith in
     ap names_rise (append-nil (rule_policies policy 0 policy.rules)) ∙ rules-rise policy 0 policy.rules fits
 

@@ -1,5 +1,5 @@
 -- The value that is written of the listener that is built is nested little, and holds no float.
-use Rattle.std.proofs.Common.{◌≡◌, ℕ, zero, suc, ◌+◌, ◌≤◌, max, Bool, true, false, cond, ◌&&◌, ◌||◌, List, [], ◌∷◌, filter, Some, nat_le, refl, ◌∙◌, ap, arith}
+use Rattle.std.proofs.Common.{◌≡◌, ℕ, zero, suc, ◌+◌, ◌≤◌, max, Bool, true, false, cond, ◌&&◌, ◌||◌, List, [], ◌∷◌, ◌++◌, map, filter, Some, nat_le, refl, ◌∙◌, ap, arith}
 use Rattle.std.specs.List.{list_any, list_all}
 use Rattle.std.proofs.lemmas.List.{append-nil}
 use Rattle.serde_json.specs.Data.{Data, null, boolean, number, string, array, object, Items, no_items, item, Members, no_members, member, depth, items_depth, members_depth}
@@ -11,13 +11,15 @@ use Rattle.mesh_policy.specs.declared.policy.OperationSpec.{OperationSpec}
 use Rattle.mesh_policy.specs.declared.policy.Rule.{Rule}
 use Rattle.mesh_policy.specs.Applies.{applies}
 use Rattle.envoy_types.specs.declared.listener.NetworkFilter.TheVariants as network
+use Rattle.envoy_types.specs.declared.rbac.PermissionLeaf.TheVariants.{DestinationPort}
 use Rattle.envoy_types.specs.declared.rbac.Principal.TheVariants.{Any}
 use Rattle.envoy_types.specs.declared.rbac.RbacAction.TheVariants.{Allow}
 use Rattle.envoy_types.specs.declared.rbac.RbacPolicy.{RbacPolicy}
 use Rattle.envoy_types.specs.Written as form
 use Rattle.envoy_types.specs.Written.{written}
-use Rattle.mesh_cli.specs.Built.{is_buildable, are_buildable, has_few_rules, has_one_operation, has_one_port, is_sole, permissions_of, rule_name, rule_policies, policies_of, allow_filter, listener_with, built}
+use Rattle.mesh_cli.specs.Built.{is_buildable, are_buildable, has_few_rules, has_one_operation, has_one_port, is_of_one_port, is_sole, permissions_of, rule_name, rule_policies, policies_of, allow_filter, listener_with, built}
 use Rattle.mesh_cli.proofs.Booleans.{both, left_of, right_of}
+use Rattle.mesh_cli.proofs.Builds.{policies-of}
 use Rattle.mesh_cli.proofs.NamesRise.{policies-rise}
 use Rattle.mesh_cli.proofs.Spelled.{direct, in-order}
 
@@ -68,9 +70,9 @@ mutual
 sole-shallow : (name : List ℕ) (operations : List OperationSpec) → is_sole has_one_port operations ≡ true
     → is_shallow 119 (form.policy (record { name = name; permissions = permissions_of operations; principals = Any ∷ [] })) ≡ true
 sole-shallow name [] h = cc
-sole-shallow name (operation ∷ []) h = port operation.ports h where
-  port : (ports : List ℕ) → is_sole (λ p. nat_le p 65535) ports ≡ true
-      → is_shallow 119 (form.policy (record { name = name; permissions = permissions_of (record { ports = ports } ∷ []); principals = Any ∷ [] })) ≡ true
+sole-shallow name (operation ∷ []) h = port operation.ports (right_of _ _ h) where
+  port : (ports : List ℕ) → is_of_one_port ports ≡ true
+      → is_shallow 119 (form.policy (record { name = name; permissions = map DestinationPort ports ++ []; principals = Any ∷ [] })) ≡ true
   port [] k = cc
   port (p ∷ []) k = refl
   port (p ∷ (q ∷ ports)) k = cc
@@ -79,9 +81,9 @@ sole-shallow name (operation ∷ (other ∷ operations)) h = cc
 sole-whole : (name : List ℕ) (operations : List OperationSpec) → is_sole has_one_port operations ≡ true
     → has_float (form.policy (record { name = name; permissions = permissions_of operations; principals = Any ∷ [] })) ≡ false
 sole-whole name [] h = cc
-sole-whole name (operation ∷ []) h = port operation.ports h where
-  port : (ports : List ℕ) → is_sole (λ p. nat_le p 65535) ports ≡ true
-      → has_float (form.policy (record { name = name; permissions = permissions_of (record { ports = ports } ∷ []); principals = Any ∷ [] })) ≡ false
+sole-whole name (operation ∷ []) h = port operation.ports (right_of _ _ h) where
+  port : (ports : List ℕ) → is_of_one_port ports ≡ true
+      → has_float (form.policy (record { name = name; permissions = map DestinationPort ports ++ []; principals = Any ∷ [] })) ≡ false
   port [] k = cc
   port (p ∷ []) k = refl
   port (p ∷ (q ∷ ports)) k = cc
@@ -89,22 +91,22 @@ sole-whole name (operation ∷ (other ∷ operations)) h = cc
 
 rules-shallow : (policy : AuthorizationPolicy) (k : ℕ) (rules : List Rule) → list_all has_one_operation rules ≡ true → members_shallow 119 (direct (rule_policies policy k rules)) ≡ true
 rules-shallow policy k [] h = refl
-rules-shallow policy k (rule ∷ rules) h = both _ _ (sole-shallow (rule_name policy k) rule.operations (left_of _ _ h)) (rules-shallow policy (k + 1) rules (right_of _ _ h))
+rules-shallow policy k (rule ∷ rules) h = both _ _ (sole-shallow (rule_name policy k) rule.operations (right_of _ _ (left_of _ _ h))) (rules-shallow policy (k + 1) rules (right_of _ _ h))
 
 neither : (a b : Bool) → a ≡ false → b ≡ false → (a || b) ≡ false
 neither a b p q = ap (λ x. x || b) p ∙ q
 
 rules-whole : (policy : AuthorizationPolicy) (k : ℕ) (rules : List Rule) → list_all has_one_operation rules ≡ true → members_have_float (direct (rule_policies policy k rules)) ≡ false
 rules-whole policy k [] h = refl
-rules-whole policy k (rule ∷ rules) h = neither _ _ (sole-whole (rule_name policy k) rule.operations (left_of _ _ h)) (rules-whole policy (k + 1) rules (right_of _ _ h))
+rules-whole policy k (rule ∷ rules) h = neither _ _ (sole-whole (rule_name policy k) rule.operations (right_of _ _ (left_of _ _ h))) (rules-whole policy (k + 1) rules (right_of _ _ h))
 
 chosen-shallow : (policy : AuthorizationPolicy) (chosen : Bool) → has_few_rules policy ≡ true → members_shallow 119 (direct (policies_of (cond chosen (policy ∷ []) []))) ≡ true
 chosen-shallow policy false h = refl
-chosen-shallow policy true h = ap (λ ps. members_shallow 119 (direct ps)) (append-nil (rule_policies policy 0 policy.rules)) ∙ rules-shallow policy 0 policy.rules (right_of _ _ h)
+chosen-shallow policy true h = ap (λ ps. members_shallow 119 (direct ps)) (append-nil (rule_policies policy 0 policy.rules)) ∙ rules-shallow policy 0 policy.rules (right_of _ _ (right_of _ _ h))
 
 chosen-whole : (policy : AuthorizationPolicy) (chosen : Bool) → has_few_rules policy ≡ true → members_have_float (direct (policies_of (cond chosen (policy ∷ []) []))) ≡ false
 chosen-whole policy false h = refl
-chosen-whole policy true h = ap (λ ps. members_have_float (direct ps)) (append-nil (rule_policies policy 0 policy.rules)) ∙ rules-whole policy 0 policy.rules (right_of _ _ h)
+chosen-whole policy true h = ap (λ ps. members_have_float (direct ps)) (append-nil (rule_policies policy 0 policy.rules)) ∙ rules-whole policy 0 policy.rules (right_of _ _ (right_of _ _ h))
 
 policies-shallow : (pod : Pod) (policies : List AuthorizationPolicy) → are_buildable policies ≡ true → members_shallow 119 (direct (policies_of (filter (applies pod) policies))) ≡ true
 policies-shallow pod [] h = refl
@@ -130,12 +132,12 @@ pub shallow : (bundle : Bundle) (pod : Pod) → is_buildable bundle ≡ true →
 unfolding built
 shallow bundle pod h = depth-within 127 (written (built bundle pod)) (at (list_any (applies pod) bundle.authorization)) where
   at : (some_applies : Bool) → is_shallow 127 (written (listener_with (cond some_applies (allow_filter (filter (applies pod) bundle.authorization) ∷ []) []))) ≡ true
-  at true = listener-shallow (policies_of (filter (applies pod) bundle.authorization)) (ap (members_shallow 119) (in-order (policies_of (filter (applies pod) bundle.authorization)) (policies-rise pod bundle.authorization h)) ∙ policies-shallow pod bundle.authorization h)
+  at true = listener-shallow (policies_of (filter (applies pod) bundle.authorization)) (ap (members_shallow 119) (in-order (policies_of (filter (applies pod) bundle.authorization)) (policies-rise pod bundle.authorization (policies-of bundle h))) ∙ policies-shallow pod bundle.authorization (policies-of bundle h))
   at false = refl
 
 pub whole : (bundle : Bundle) (pod : Pod) → is_buildable bundle ≡ true → has_float (written (built bundle pod)) ≡ false
 unfolding built
 whole bundle pod h = at (list_any (applies pod) bundle.authorization) where
   at : (some_applies : Bool) → has_float (written (listener_with (cond some_applies (allow_filter (filter (applies pod) bundle.authorization) ∷ []) []))) ≡ false
-  at true = listener-whole (policies_of (filter (applies pod) bundle.authorization)) (ap members_have_float (in-order (policies_of (filter (applies pod) bundle.authorization)) (policies-rise pod bundle.authorization h)) ∙ policies-whole pod bundle.authorization h)
+  at true = listener-whole (policies_of (filter (applies pod) bundle.authorization)) (ap members_have_float (in-order (policies_of (filter (applies pod) bundle.authorization)) (policies-rise pod bundle.authorization (policies-of bundle h))) ∙ policies-whole pod bundle.authorization (policies-of bundle h))
   at false = refl

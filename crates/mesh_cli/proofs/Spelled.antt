@@ -1,5 +1,5 @@
 -- The value that is written of the listener that is built spells that listener.
-use Rattle.std.proofs.Common.{◌≡◌, ℕ, ◌+◌, Bool, true, false, cond, List, [], ◌∷◌, filter, Some, nat_le, refl, sym, ◌∙◌, ap}
+use Rattle.std.proofs.Common.{◌≡◌, ℕ, ◌+◌, Bool, true, false, cond, List, [], ◌∷◌, ◌++◌, map, filter, Some, nat_le, refl, sym, ◌∙◌, ap}
 use Rattle.std.specs.List.{list_any, list_all}
 use Rattle.std.specs.Ordering.{nat_cmp, match_ordering}
 use Rattle.std.specs.declared.cmp.Ordering.{Ordering}
@@ -15,6 +15,7 @@ use Rattle.mesh_policy.specs.declared.policy.OperationSpec.{OperationSpec}
 use Rattle.mesh_policy.specs.declared.policy.Rule.{Rule}
 use Rattle.mesh_policy.specs.Applies.{applies}
 use Rattle.envoy_types.specs.declared.listener.NetworkFilter.TheVariants as network
+use Rattle.envoy_types.specs.declared.rbac.PermissionLeaf.TheVariants.{DestinationPort}
 use Rattle.envoy_types.specs.declared.rbac.Principal.TheVariants.{Any}
 use Rattle.envoy_types.specs.declared.rbac.RbacAction.TheVariants.{Allow}
 use Rattle.envoy_types.specs.declared.rbac.RbacPolicy.{RbacPolicy}
@@ -22,8 +23,9 @@ use Rattle.envoy_types.specs.Rules.{names_rise, is_below}
 use Rattle.envoy_types.specs.Spells.{policy_in, named_policies, policies_in, listener_in}
 use Rattle.envoy_types.specs.Written as form
 use Rattle.envoy_types.specs.Written.{written}
-use Rattle.mesh_cli.specs.Built.{is_buildable, are_buildable, has_few_rules, has_one_operation, has_one_port, is_sole, permissions_of, rule_name, rule_policies, policies_of, allow_filter, listener_with, built}
+use Rattle.mesh_cli.specs.Built.{is_buildable, are_buildable, has_few_rules, has_one_operation, has_one_port, is_of_one_port, is_sole, permissions_of, rule_name, rule_policies, policies_of, allow_filter, listener_with, built}
 use Rattle.mesh_cli.proofs.Booleans.{left_of, right_of}
+use Rattle.mesh_cli.proofs.Builds.{policies-of}
 use Rattle.mesh_cli.proofs.NamesRise.{policies-rise}
 
 -- ---- policies whose names rise stand in the object as they do in the list
@@ -49,9 +51,9 @@ in-order (policy ∷ policies) h =
 
 -- ---- each is read back
 
-port-back : (name : List ℕ) (ports : List ℕ) → is_sole (λ port. nat_le port 65535) ports ≡ true
-    → policy_in name (form.policy (record { name = name; permissions = permissions_of (record { ports = ports } ∷ []); principals = Any ∷ [] }))
-    ≡ Some (record { name = name; permissions = permissions_of (record { ports = ports } ∷ []); principals = Any ∷ [] })
+port-back : (name : List ℕ) (ports : List ℕ) → is_of_one_port ports ≡ true
+    → policy_in name (form.policy (record { name = name; permissions = map DestinationPort ports ++ []; principals = Any ∷ [] }))
+    ≡ Some (record { name = name; permissions = map DestinationPort ports ++ []; principals = Any ∷ [] })
 port-back name [] h = cc
 port-back name (port ∷ []) h = rw (leb-zero port, h) refl
 port-back name (port ∷ (other ∷ ports)) h = cc
@@ -60,14 +62,14 @@ rule-back : (name : List ℕ) (operations : List OperationSpec) → is_sole has_
     → policy_in name (form.policy (record { name = name; permissions = permissions_of operations; principals = Any ∷ [] }))
     ≡ Some (record { name = name; permissions = permissions_of operations; principals = Any ∷ [] })
 rule-back name [] h = cc
-rule-back name (operation ∷ []) h = port-back name operation.ports h
+rule-back name (operation ∷ []) h = port-back name operation.ports (right_of _ _ h)
 rule-back name (operation ∷ (other ∷ operations)) h = cc
 
 rules-back : (policy : AuthorizationPolicy) (k : ℕ) (rules : List Rule) → list_all has_one_operation rules ≡ true
     → named_policies (direct (rule_policies policy k rules)) ≡ Some (rule_policies policy k rules)
 rules-back policy k [] h = refl
 rules-back policy k (rule ∷ rules) h =
-    let sole : is_sole has_one_port rule.operations ≡ true = left_of _ _ h in
+    let sole : is_sole has_one_port rule.operations ≡ true = right_of _ _ (left_of _ _ h) in
     let others : list_all has_one_operation rules ≡ true = right_of _ _ h in
     rw (rule-back (rule_name policy k) rule.operations sole, rules-back policy (k + 1) rules others) refl
 
@@ -76,7 +78,7 @@ one-back : (policy : AuthorizationPolicy) (chosen : Bool) → has_few_rules poli
 one-back policy false h = refl
 one-back policy true h =
     ap (λ policies. named_policies (direct policies)) (append-nil (rule_policies policy 0 policy.rules))
-    ∙ rules-back policy 0 policy.rules (right_of _ _ h)
+    ∙ rules-back policy 0 policy.rules (right_of _ _ (right_of _ _ h))
     ∙ ap (λ policies. Some policies) (sym (append-nil (rule_policies policy 0 policy.rules)))
 
 policies-back : (pod : Pod) (policies : List AuthorizationPolicy) → are_buildable policies ≡ true
@@ -103,7 +105,7 @@ pub spelled : (bundle : Bundle) (pod : Pod) → is_buildable bundle ≡ true →
 unfolding built
 spelled bundle pod h = at (list_any (applies pod) bundle.authorization) where
   back : policies_in (object (form.policies (policies_of (filter (applies pod) bundle.authorization)))) ≡ Some (policies_of (filter (applies pod) bundle.authorization))
-  back = object-back _ (policies-rise pod bundle.authorization h) (policies-back pod bundle.authorization h)
+  back = object-back _ (policies-rise pod bundle.authorization (policies-of bundle h)) (policies-back pod bundle.authorization (policies-of bundle h))
 
   at : (some_applies : Bool) → let filters = cond some_applies (allow_filter (filter (applies pod) bundle.authorization) ∷ []) [] in
       listener_in (written (listener_with filters)) ≡ Some (listener_with filters)

@@ -1,5 +1,5 @@
 -- The listener that is built gives each connection the verdict of the policies.
-use Rattle.std.proofs.Common.{◌≡◌, ℕ, ◌+◌, ◌==◌, Bool, true, false, cond, ◌&&◌, ◌||◌, List, [], ◌∷◌, codes, filter, find, Option, Some, None, is_some, nat_le, if◌then◌else◌, refl, ◌∙◌, ap}
+use Rattle.std.proofs.Common.{◌≡◌, ℕ, ◌+◌, ◌==◌, Bool, true, false, cond, ◌&&◌, ◌||◌, List, [], ◌∷◌, ◌++◌, codes, map, filter, find, Option, Some, None, is_some, nat_le, if◌then◌else◌, refl, ◌∙◌, ap}
 use Rattle.std.specs.List.{list_any, list_all}
 use Rattle.std.proofs.lemmas.List.Folds.{list_any-append}
 use Rattle.mesh_policy.specs.declared.bundle.Bundle.{Bundle}
@@ -15,12 +15,14 @@ use Rattle.mesh_policy.specs.MeshVerdict.{is_allowed, mesh_verdict}
 use Rattle.mesh_policy.specs.Rules as mesh
 use Rattle.envoy_types.specs.declared.listener.FilterChain.{FilterChain}
 use Rattle.envoy_types.specs.declared.listener.NetworkFilter.{NetworkFilter}
+use Rattle.envoy_types.specs.declared.rbac.PermissionLeaf.TheVariants.{DestinationPort}
 use Rattle.envoy_types.specs.EnvoyVerdict.{envoy_verdict, verdict_by, tcp_verdict}
 use Rattle.envoy_types.specs.Filters as envoy
 use Rattle.envoy_types.specs.Filters.{Run, run_filters}
 use Rattle.envoy_types.specs.Prune.{agreed_name, fits_name}
-use Rattle.mesh_cli.specs.Built.{is_buildable, are_buildable, has_few_rules, has_one_operation, is_sole, has_one_port, rule_policies, policies_of, permissions_of, allow_filter, filters_of, chain_of, mutual_match, opaque_match, built}
+use Rattle.mesh_cli.specs.Built.{is_buildable, are_buildable, has_few_rules, has_one_operation, is_sole, is_of_one_port, has_one_port, rule_policies, policies_of, permissions_of, allow_filter, filters_of, chain_of, mutual_match, opaque_match, built}
 use Rattle.mesh_cli.proofs.Booleans.{both, left_of, right_of}
+use Rattle.mesh_cli.proofs.Builds.{policies-of}
 
 -- ---- what a policy of the filter holds for
 
@@ -35,8 +37,8 @@ sole_port : (b : Bool) → ((b || false) && true) ≡ ((b || false) || false)
 sole_port true = refl
 sole_port false = refl
 
-port-agrees : (c : Case) (ports : List ℕ) → is_sole (λ port. nat_le port 65535) ports ≡ true
-    → (list_any (envoy.permission_holds c) (permissions_of (record { ports = ports } ∷ [])) && true) ≡ (mesh.operation_holds c (record { ports = ports }) || false)
+port-agrees : (c : Case) (ports : List ℕ) → is_of_one_port ports ≡ true
+    → (list_any (envoy.permission_holds c) (map DestinationPort ports ++ []) && true) ≡ (mesh.holds_if_written (λ port. port == c.port) ports || false)
 port-agrees c [] h = cc
 port-agrees c (port ∷ []) h = sole_port (port == c.port)
 port-agrees c (port ∷ (other ∷ ports)) h = cc
@@ -44,14 +46,14 @@ port-agrees c (port ∷ (other ∷ ports)) h = cc
 operations-agree : (c : Case) (operations : List OperationSpec) → is_sole has_one_port operations ≡ true
     → (list_any (envoy.permission_holds c) (permissions_of operations) && true) ≡ mesh.holds_if_written (mesh.operation_holds c) operations
 operations-agree c [] h = cc
-operations-agree c (operation ∷ []) h = port-agrees c operation.ports h
+operations-agree c (operation ∷ []) h = port-agrees c operation.ports (right_of _ _ h)
 operations-agree c (operation ∷ (other ∷ operations)) h = cc
 
 rules-agree : (c : Case) (policy : AuthorizationPolicy) (k : ℕ) (rules : List Rule) → list_all has_one_operation rules ≡ true
     → list_any (envoy.policy_holds c) (rule_policies policy k rules) ≡ list_any (mesh.rule_holds_tcp c) rules
 rules-agree c policy k [] h = refl
 rules-agree c policy k (rule ∷ rules) h =
-    ap (λ b. b || list_any (envoy.policy_holds c) (rule_policies policy (k + 1) rules)) (operations-agree c rule.operations (left_of _ _ h))
+    ap (λ b. b || list_any (envoy.policy_holds c) (rule_policies policy (k + 1) rules)) (operations-agree c rule.operations (right_of _ _ (left_of _ _ h)))
     ∙ ap (λ b. mesh.rule_holds_tcp c rule || b) (rules-agree c policy (k + 1) rules (right_of _ _ h))
 
 policies-agree : (c : Case) (policies : List AuthorizationPolicy) → list_all has_few_rules policies ≡ true
@@ -59,7 +61,7 @@ policies-agree : (c : Case) (policies : List AuthorizationPolicy) → list_all h
 policies-agree c [] h = refl
 policies-agree c (policy ∷ policies) h =
     list_any-append (envoy.policy_holds c) (rule_policies policy 0 policy.rules) (policies_of policies)
-    ∙ ap (λ b. b || list_any (envoy.policy_holds c) (policies_of policies)) (rules-agree c policy 0 policy.rules (right_of _ _ (left_of _ _ h)))
+    ∙ ap (λ b. b || list_any (envoy.policy_holds c) (policies_of policies)) (rules-agree c policy 0 policy.rules (right_of _ _ (right_of _ _ (left_of _ _ h))))
     ∙ ap (λ b. mesh.policy_holds c policy || b) (policies-agree c policies (right_of _ _ h))
 
 list_all-filter : {A : Type 0} (test keep : A → Bool) (xs : List A) → list_all test xs ≡ true → list_all test (filter keep xs) ≡ true
@@ -94,7 +96,7 @@ filters-decide : (b : Bundle) (pod : Pod) (c : Case) → is_buildable b ≡ true
 unfolding decided
 filters-decide b pod c h = at (list_any (applies pod) b.authorization) where
   few : list_all has_few_rules (filter (applies pod) b.authorization) ≡ true
-  few = list_all-filter has_few_rules (applies pod) b.authorization (few-all b.authorization h)
+  few = list_all-filter has_few_rules (applies pod) b.authorization (few-all b.authorization (policies-of b h))
 
   at : (some_applies : Bool) → run_filters c (if some_applies then allow_filter (filter (applies pod) b.authorization) ∷ [] else []) false
       ≡ decided (if some_applies then list_any (mesh.policy_holds c) (filter (applies pod) b.authorization) else true)
@@ -120,21 +122,24 @@ chain-for filters (name ∷ names) = at (is_mesh_name name) refl (chain-for filt
 
 -- ---- the verdicts
 
-plain-agrees : (b : Bundle) (pod : Pod) (port : ℕ) → is_buildable b ≡ true
-    → let c : Case = record { port = port; tls = None } in envoy_verdict (built b pod) c ≡ mesh_verdict b pod c
-unfolding built decided
-plain-agrees b pod port h = ap tcp_verdict (filters-decide b pod (record { port = port; tls = None }) h)
+abbrev with_tls : Case → Option Tls → Case
+with_tls c tls = record { source = c.source; remote = c.remote; destination = c.destination; port = c.port; tls = tls; request = c.request; verdicts = c.verdicts; answers = c.answers }
 
-tls_cases : (b : Bundle) (pod : Pod) (port : ℕ) (tls : Tls) → is_buildable b ≡ true → (offers has_peer : Bool)
+plain-agrees : (b : Bundle) (pod : Pod) (c : Case) → is_buildable b ≡ true
+    → envoy_verdict (built b pod) (with_tls c None) ≡ mesh_verdict b pod (with_tls c None)
+unfolding built decided
+plain-agrees b pod c h = ap tcp_verdict (filters-decide b pod (with_tls c None) h)
+
+tls_cases : (b : Bundle) (pod : Pod) (c : Case) (tls : Tls) → is_buildable b ≡ true → (offers has_peer : Bool)
     → offers_mesh_name tls ≡ offers → is_some tls.peer ≡ has_peer
-    → let c : Case = record { port = port; tls = Some tls } in envoy_verdict (built b pod) c ≡ mesh_verdict b pod c
+    → envoy_verdict (built b pod) (with_tls c (Some tls)) ≡ mesh_verdict b pod (with_tls c (Some tls))
 unfolding built decided encrypted
-tls_cases b pod port tls h true true e p = ap (verdict_by (record { port = port; tls = Some tls })) (chain-for (filters_of b pod) tls.alpn) ∙ rw (e, p) (ap tcp_verdict (filters-decide b pod (record { port = port; tls = Some tls }) h))
-tls_cases b pod port tls h true false e p = ap (verdict_by (record { port = port; tls = Some tls })) (chain-for (filters_of b pod) tls.alpn) ∙ rw (e, p) refl
-tls_cases b pod port tls h false has_peer e p = ap (verdict_by (record { port = port; tls = Some tls })) (chain-for (filters_of b pod) tls.alpn) ∙ rw e (ap tcp_verdict (filters-decide b pod (record { port = port; tls = Some tls }) h))
+tls_cases b pod c tls h true true e p = ap (verdict_by (with_tls c (Some tls))) (chain-for (filters_of b pod) tls.alpn) ∙ rw (e, p) (ap tcp_verdict (filters-decide b pod (with_tls c (Some tls)) h))
+tls_cases b pod c tls h true false e p = ap (verdict_by (with_tls c (Some tls))) (chain-for (filters_of b pod) tls.alpn) ∙ rw (e, p) refl
+tls_cases b pod c tls h false has_peer e p = ap (verdict_by (with_tls c (Some tls))) (chain-for (filters_of b pod) tls.alpn) ∙ rw e (ap tcp_verdict (filters-decide b pod (with_tls c (Some tls)) h))
 
 pub agree : (b : Bundle) (pod : Pod) → is_buildable b ≡ true → (c : Case) → envoy_verdict (built b pod) c ≡ mesh_verdict b pod c
 agree b pod h c = at c.tls where
-  at : (tls : Option Tls) → let case : Case = record { port = c.port; tls = tls } in envoy_verdict (built b pod) case ≡ mesh_verdict b pod case
-  at None = plain-agrees b pod c.port h
-  at (Some tls) = tls_cases b pod c.port tls h (offers_mesh_name tls) (is_some tls.peer) refl refl
+  at : (tls : Option Tls) → envoy_verdict (built b pod) (with_tls c tls) ≡ mesh_verdict b pod (with_tls c tls)
+  at None = plain-agrees b pod c h
+  at (Some tls) = tls_cases b pod c tls h (offers_mesh_name tls) (is_some tls.peer) refl refl

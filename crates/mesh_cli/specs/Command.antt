@@ -1,5 +1,5 @@
 -- Which words are a command.
-use Rattle.std.specs.Prelude.{ℕ, ◌==◌, Bool, ◌&&◌, List, [], ◌∷◌, length, Option, Some, None, codes, nat_lt, if◌then◌else◌}
+use Rattle.std.specs.Prelude.{ℕ, ◌==◌, Bool, ◌&&◌, List, [], ◌∷◌, length, Option, Some, None, option_map, codes, nat_lt, if◌then◌else◌}
 use Rattle.std.specs.List.{position_or_len, before_first, after_first}
 use Rattle.std.specs.Str.{bytes_eq}
 use Rattle.mesh_text.specs.Dns.{is_label, is_subdomain}
@@ -8,6 +8,12 @@ use Rattle.mesh_text.specs.Dns.{is_label, is_subdomain}
 pub record PodName : Type 0 where
   pub namespace : List ℕ
   pub name : List ℕ
+
+pub data Command : Type 0 where
+  -- the listener of a Pod
+  translate : PodName → Command
+  -- the counts of the manifests
+  check : Command
 
 abbrev pub pod_at : List ℕ → List ℕ → PodName
 pod_at namespace name = record { namespace = namespace; name = name }
@@ -23,8 +29,15 @@ pod_name_of path =
     else None
 
 -- `translate NS/POD`
-abbrev pub command_of : List (List ℕ) → Option PodName
+abbrev pub translate_of : List ℕ → List ℕ → Option Command
+translate_of word path = if bytes_eq word (codes "translate") then option_map translate (pod_name_of path) else None
+
+-- `check`
+abbrev pub check_of : List ℕ → Option Command
+check_of word = if bytes_eq word (codes "check") then Some check else None
+
+abbrev pub command_of : List (List ℕ) → Option Command
 command_of [] = None
-command_of (word ∷ []) = None
-command_of (word ∷ path ∷ []) = if bytes_eq word (codes "translate") then pod_name_of path else None
+command_of (word ∷ []) = check_of word
+command_of (word ∷ path ∷ []) = translate_of word path
 command_of (word ∷ path ∷ more ∷ words) = None

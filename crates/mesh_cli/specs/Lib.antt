@@ -1,8 +1,9 @@
 pub mod Answer
 pub mod Built
 pub mod Command
-pub mod Document
+pub mod Counts
 pub mod Ends
-pub mod Gives
+pub mod FirstForm
 pub mod Headline
+pub mod Meant
 pub mod Notes

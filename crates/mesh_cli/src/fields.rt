@@ -1,17 +1,13 @@
-// Small steps of reading a JSON value.
+// Small tests of a JSON value.
 ghost use Rattle.std.specs.Prelude.{◌≡◌, option_map, option_and_then, map};
 ghost use Rattle.std.specs.List.{list_any};
 ghost use Rattle.std.specs.Str.{bytes_eq};
 ghost use Rattle.serde_json.specs.Find.{get, as_array};
 ghost use Rattle.serde_json.specs.View.{view, items_view, members_view};
 ghost use Rattle.envoy_types.specs.Fields as field;
-ghost use Rattle.mesh_cli.specs.Document as form;
-ghost use Rattle.mesh_cli.specs.Gives.{Gives};
+ghost use Rattle.mesh_cli.specs.FirstForm as form;
 
-use crate::refusal::Misfit;
-use mesh_text::{Text, is_dns_label, is_dns_subdomain};
 use serde_json::{Map, Value};
-use std::alloc::Global;
 
 /// Whether the value is an object with no other keys than these.
 pub fn has_only(value: &Value, names: &[&str]) -> bool
@@ -79,25 +75,5 @@ pub fn entries_at<'a>(value: &'a Value, name: &str) -> Option<&'a [Value]>
     match value.get(name) {
         Some(Value::Array(entries)) => Some(entries.as_slice()),
         _ => None,
-    }
-}
-
-/// The name of an item, by its metadata: a DNS subdomain.
-pub fn read_name(alloc: Global, metadata: &Value) -> Result<Text, Misfit>
-    ensures { Gives result (form.name_in (view metadata.now)) }
-{
-    match metadata.get("name").and_then(Value::as_str) {
-        Some(name) if is_dns_subdomain(name) => Ok(Text::of(alloc, name)?),
-        _ => Err(Misfit::Form),
-    }
-}
-
-/// The namespace of an item, by its metadata: a DNS label.
-pub fn read_namespace(alloc: Global, metadata: &Value) -> Result<Text, Misfit>
-    ensures { Gives result (form.namespace_in (view metadata.now)) }
-{
-    match metadata.get("namespace").and_then(Value::as_str) {
-        Some(namespace) if is_dns_label(namespace) => Ok(Text::of(alloc, namespace)?),
-        _ => Err(Misfit::Form),
     }
 }

@@ -4,9 +4,12 @@
 mod answer;
 mod build;
 mod build_rules;
-mod document;
-mod document_policy;
+mod buildable;
+#[cfg(test)]
+mod check_tests;
+mod counts;
 mod fields;
+mod first_form;
 mod notes;
 mod pieces;
 mod print;

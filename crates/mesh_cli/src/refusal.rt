@@ -1,4 +1,8 @@
-use mesh_text::Memory;
+ghost use Rattle.std.specs.Prelude.{◌≡◌};
+ghost use Rattle.mesh_cli.specs.Answer.{Stops, refusal, spot_text};
+
+use mesh_text::Text;
+use std::alloc::Global;
 
 /// How the program ends. The number is its exit status.
 #[derive(Clone, Copy, Debug, PartialEq, Eq)]
@@ -17,7 +21,7 @@ pub enum Status {
     Memory = 5,
 }
 
-/// Where a document leaves the form that is read.
+/// Where a document leaves the form that a listener is built for so far.
 #[derive(Clone, Copy, Debug, PartialEq, Eq)]
 pub enum Spot {
     Document,
@@ -25,59 +29,33 @@ pub enum Spot {
     SecondItem,
 }
 
-/// Why an input is refused.
-#[derive(Clone, Copy, Debug, PartialEq, Eq)]
-pub enum Refusal {
-    /// It has more than 8,388,608 bytes.
-    TooLong,
-    /// It has no reading as JSON.
-    NotJson,
-    /// It is not of the form that is read so far.
-    NotYet(Spot),
-    /// It has no Pod of that namespace and name.
-    NoWorkload,
-}
-
-/// Why there is no text.
-#[derive(Clone, Copy, Debug, PartialEq, Eq)]
-pub enum Stop {
-    Refused(Refusal),
-    Memory,
-}
-
-/// Why a part of a document gives no value.
-#[derive(Clone, Copy, Debug, PartialEq, Eq)]
-pub enum Misfit {
-    /// It is not of its form.
-    Form,
-    Memory,
-}
-
-/// Why a document gives no manifests.
-#[derive(Clone, Copy, Debug, PartialEq, Eq)]
-pub enum Unread {
-    NotYet(Spot),
-    Memory,
-}
-
-impl From<Memory> for Misfit {
-    ghost use Rattle.std.specs.Prelude.{◌≡◌};
-    ghost use Rattle.mesh_cli.specs.declared.refusal.Misfit.TheVariants.{Memory as Exhausted};
-
-    ghost from_gives = { λ _ e. e ≡ Exhausted };
-
-    fn from(_: Memory) -> Misfit {
-        Misfit::Memory
+impl Spot {
+    /// The place as refusals print it.
+    pub fn text(&self) -> &'static str
+        ensures { result.now ≡ spot_text self.now }
+    {
+        match self {
+            Spot::Document => "$",
+            Spot::FirstItem => "$/items/0",
+            Spot::SecondItem => "$/items/1",
+        }
     }
 }
 
-impl From<Memory> for Unread {
-    ghost use Rattle.std.specs.Prelude.{◌≡◌};
-    ghost use Rattle.mesh_cli.specs.declared.refusal.Unread.TheVariants.{Memory as Exhausted};
+/// Why there is no text.
+#[derive(Debug, Drop)]
+pub enum Stop {
+    /// The input is refused: the line of the notes.
+    Refused(Text),
+    Memory,
+}
 
-    ghost from_gives = { λ _ e. e ≡ Exhausted };
-
-    fn from(_: Memory) -> Unread {
-        Unread::Memory
+/// The refusal for a reason at a place, or want of memory for its line.
+pub fn refuse(alloc: Global, place: &str, reason: &str) -> Stop
+    ensures { Stops result (refusal place.now reason.now) }
+{
+    match format!(in alloc; "refused: {}: {}\n", place, reason) {
+        Ok(line) => Stop::Refused(Text::from_string(line)),
+        Err(_) => Stop::Memory,
     }
 }

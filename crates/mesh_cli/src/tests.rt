@@ -1,4 +1,4 @@
-// Runs over sources and sinks in memory. The listeners are those of the worked documents.
+// `translate` over sources and sinks in memory. The listeners are those of the worked documents.
 use crate::{Status, run};
 use mesh_edge::{MemorySink, MemorySource};
 use std::alloc::{AllocError, Global};
@@ -67,13 +67,13 @@ fn with_rules(alloc: Global, count: u32) -> Result<String, AllocError> {
     Ok(text)
 }
 
-// What a run leaves.
+/// What a run leaves.
 #[derive(Drop)]
-struct Ended {
-    status: Status,
-    input: MemorySource,
-    output: MemorySink,
-    notes: MemorySink,
+pub struct Ended {
+    pub status: Status,
+    pub input: MemorySource,
+    pub output: MemorySink,
+    pub notes: MemorySink,
 }
 
 fn source(alloc: Global, input: &str, fails: &[u64]) -> Result<MemorySource, AllocError> {
@@ -106,8 +106,8 @@ fn run_over(
     })
 }
 
-// A run whose streams never fail.
-fn clean(alloc: Global, words: &[&str], input: &str) -> Result<Ended, AllocError> {
+/// A run whose streams never fail.
+pub fn clean(alloc: Global, words: &[&str], input: &str) -> Result<Ended, AllocError> {
     let output = sink(alloc, &[])?;
     let notes = sink(alloc, &[])?;
     run_over(alloc, words, source(alloc, input, &[])?, output, notes)
@@ -167,7 +167,7 @@ fn refusals(rt: HostRuntime) -> Result<(), Fail> {
             "foo/web",
             NO_POD,
             refused,
-            "refused: $/items/0: NotYet\n",
+            "refused: $/items/0: WrongType\n",
         ),
         (
             "translate",

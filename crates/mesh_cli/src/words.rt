@@ -1,23 +1,55 @@
 // Which words are a command.
 ghost use Rattle.std.specs.Prelude.{◌≡◌, map, option_map, string_bytes};
-ghost use Rattle.mesh_cli.specs.Command.{command_of, pod_name_of, pod_at};
+ghost use Rattle.mesh_cli.specs.Command.{check_of, command_of, pod_name_of, pod_at, translate_of};
+ghost use Rattle.mesh_cli.specs.Meant.{meant};
 
 use mesh_text::{is_dns_label, is_dns_subdomain};
 
-/// The namespace and the name of the Pod that `translate NS/POD` names; None for all other words.
-pub fn command(words: &[String]) -> Option<(&str, &str)>
-    ensures { option_map (λ p. pod_at p.0.now p.1.now) result ≡ command_of (map string_bytes words.now) }
+/// What the program is asked for.
+#[derive(Clone, Copy, Debug)]
+pub enum Command<'a> {
+    /// The listener of the Pod of that namespace and name.
+    Translate(&'a str, &'a str),
+    /// The counts of the manifests.
+    Check,
+}
+
+/// The command that the words are; None for all other words.
+pub fn command_in(words: &[String]) -> Option<Command<'_>>
+    ensures { option_map meant result ≡ command_of (map string_bytes words.now) }
 {
     let Some((word, rest)) = words.split_first() else {
         return None;
     };
     let Some((path, more)) = rest.split_first() else {
-        return None;
+        return check(word.as_str());
     };
-    if !more.is_empty() || word.as_str() != "translate" {
+    if !more.is_empty() {
         return None;
     }
-    pod_name(path.as_str())
+    translate(word.as_str(), path.as_str())
+}
+
+fn check(word: &str) -> Option<Command<'static>>
+    ensures { option_map meant result ≡ check_of word.now }
+{
+    if word == "check" {
+        Some(Command::Check)
+    } else {
+        None
+    }
+}
+
+fn translate<'a>(word: &str, path: &'a str) -> Option<Command<'a>>
+    ensures { option_map meant result ≡ translate_of word.now path.now }
+{
+    if word != "translate" {
+        return None;
+    }
+    match pod_name(path) {
+        Some((namespace, name)) => Some(Command::Translate(namespace, name)),
+        None => None,
+    }
 }
 
 // `NS/POD`: a DNS label and a DNS subdomain with a slash between them.

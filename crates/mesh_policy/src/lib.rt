@@ -6,6 +6,8 @@ mod bundle;
 mod case;
 mod condition;
 mod copies;
+#[cfg(test)]
+mod copy_tests;
 mod judge;
 #[cfg(test)]
 mod judge_tests;

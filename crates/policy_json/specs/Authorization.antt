@@ -1,32 +1,22 @@
 -- The `spec` of an AuthorizationPolicy (Istio reference, "Authorization Policy").
-use Rattle.std.specs.Prelude.{ℕ, ◌==◌, Bool, ◌&&◌, List, [], Option, Some, None, is_some, not, unwrap_or, if◌then◌else◌}
+use Rattle.std.specs.Prelude.{ℕ, Bool, List, [], Option, Some, None, is_some, not, unwrap_or, if◌then◌else◌}
 use Rattle.std.specs.Str.{bytes_eq}
 use Rattle.serde_json.specs.Data.{Data}
-use Rattle.serde_json.specs.Events.{items_len}
-use Rattle.serde_json.specs.Find.{as_array}
 use Rattle.mesh_doc.specs.Faults.{Check, ◌⨾◌, ◌▸◌, demands}
 use Rattle.mesh_doc.specs.Fields.{strict, required, required_in, optional, optional_in}
-use Rattle.mesh_doc.specs.Kinds.{items_of, text_faults, text_in}
+use Rattle.mesh_doc.specs.Kinds.{text_faults, text_in}
 use Rattle.mesh_doc.specs.Lists.{listed, listed_in}
-use Rattle.mesh_doc.specs.declared.reason.Reason.TheVariants.{BadEnum, BadName, ProviderRule, TargetRefs}
+use Rattle.mesh_doc.specs.declared.reason.Reason.TheVariants.{BadEnum, BadName, ProviderRule}
 use Rattle.mesh_policy.specs.declared.policy.Action.{Action}
 use Rattle.mesh_policy.specs.declared.policy.Action.TheVariants.{Allow, Deny, Audit, Custom}
 use Rattle.mesh_policy.specs.declared.policy.AuthorizationPolicy.{AuthorizationPolicy}
 use Rattle.mesh_text.specs.Token.{is_token}
 use Rattle.policy_json.specs.Labels.{selector_faults, selector_in}
 use Rattle.policy_json.specs.Rules.{rule_faults, rule_in}
-use Rattle.policy_json.specs.Values.{most}
-use Rattle.policy_json.specs.declared.authorization.TheConstants.{AUTHORIZATION_FIELDS, TARGET_REFS, TARGET_REF, ACTION, PROVIDER, RULES, NAME, ALLOW, DENY, AUDIT, CUSTOM}
+use Rattle.policy_json.specs.Spec.{most}
+use Rattle.policy_json.specs.TargetRefs.{targets_faults}
+use Rattle.policy_json.specs.declared.authorization.TheConstants.{AUTHORIZATION_FIELDS, ACTION, PROVIDER, RULES, NAME, ALLOW, DENY, AUDIT, CUSTOM}
 use Rattle.policy_json.specs.declared.labels.TheConstants.{SELECTOR}
-
--- ---- targets by reference
-
--- none but the empty list is read, whatever its kind
-abbrev pub is_empty_list : Data → Bool
-is_empty_list d = is_some (as_array d) && (items_len (items_of d) == 0)
-
-unfoldable pub targets_faults : Check
-targets_faults = demands is_empty_list TargetRefs
 
 -- ---- action and provider
 
@@ -64,8 +54,7 @@ action_or_allow d = unwrap_or (optional_in ACTION.now action_in d) Allow
 unfoldable pub authorization_faults : Check
 authorization_faults = strict AUTHORIZATION_FIELDS.now
     (optional SELECTOR.now selector_faults
-    ⨾ optional TARGET_REFS.now targets_faults
-    ⨾ optional TARGET_REF.now targets_faults
+    ⨾ targets_faults
     ⨾ optional ACTION.now action_faults
     ⨾ optional PROVIDER.now provider_faults
     ⨾ listed RULES.now most rule_faults

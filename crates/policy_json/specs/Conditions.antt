@@ -10,7 +10,8 @@ use Rattle.mesh_policy.specs.declared.condition.Condition.{Condition}
 use Rattle.mesh_policy.specs.declared.condition.Condition.TheVariants as condition
 use Rattle.policy_json.specs.ConditionKeys.{key_faults, key_in}
 use Rattle.policy_json.specs.Texts.{short_text_faults}
-use Rattle.policy_json.specs.Values.{most, block_faults, block_in, port_value_faults, port_value_in, request_principal_faults}
+use Rattle.policy_json.specs.Spec.{most}
+use Rattle.policy_json.specs.Values.{block_faults, block_in, port_value_faults, port_value_in, request_principal_faults}
 use Rattle.policy_json.specs.declared.condition_keys.ConditionKey.{ConditionKey}
 use Rattle.policy_json.specs.declared.condition_keys.ConditionKey.TheVariants.{Words, Principals, Blocks, Ports}
 use Rattle.policy_json.specs.declared.conditions.ValueLists.{ValueLists}

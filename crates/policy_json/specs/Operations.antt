@@ -6,7 +6,8 @@ use Rattle.mesh_doc.specs.Kinds.{text_in}
 use Rattle.mesh_doc.specs.Lists.{listed, listed_in}
 use Rattle.mesh_policy.specs.declared.policy.OperationSpec.{OperationSpec}
 use Rattle.policy_json.specs.Texts.{short_text_faults}
-use Rattle.policy_json.specs.Values.{most, path_faults, port_value_faults, port_value_in}
+use Rattle.policy_json.specs.Spec.{most}
+use Rattle.policy_json.specs.Values.{path_faults, port_value_faults, port_value_in}
 use Rattle.policy_json.specs.declared.operations.TheConstants.{OPERATION_FIELDS, HOSTS, NOT_HOSTS, PORTS, NOT_PORTS, METHODS, NOT_METHODS, PATHS, NOT_PATHS}
 
 unfoldable pub operation_faults : Check

@@ -12,16 +12,13 @@ use Rattle.mesh_policy.specs.declared.jwt.Keys.TheVariants.{Inline}
 use Rattle.mesh_policy.specs.declared.jwt.RequestAuthentication.{RequestAuthentication}
 use Rattle.policy_json.specs.KeySets.{key_set_faults, keys_of, unless_empty}
 use Rattle.policy_json.specs.Labels.{selector_faults, selector_in}
+use Rattle.policy_json.specs.Spec.{most}
 use Rattle.policy_json.specs.TargetRefs.{targets_faults}
 use Rattle.policy_json.specs.Texts.{bounded_text_faults, is_name, lower_name_in, short_text_faults}
 use Rattle.policy_json.specs.TokenPlaces.{header_faults, header_in, param_faults, param_in, places_of}
 use Rattle.policy_json.specs.declared.jwt_rule.TheConstants.{RULE_FIELDS, ISSUER, AUDIENCES, JWKS_URI, JWKS, FROM_HEADERS, FROM_PARAMS, FORWARD, PAYLOAD_HEADER}
 use Rattle.policy_json.specs.declared.labels.TheConstants.{SELECTOR}
 use Rattle.policy_json.specs.declared.request.TheConstants.{REQUEST_FIELDS, JWT_RULES}
-
--- the most entries of a list
-abbrev pub most : ℕ
-most = 2048
 
 -- ---- one rule
 

@@ -6,7 +6,8 @@ use Rattle.mesh_doc.specs.Kinds.{text_in}
 use Rattle.mesh_doc.specs.Lists.{listed, listed_in}
 use Rattle.mesh_policy.specs.declared.policy.SourceSpec.{SourceSpec}
 use Rattle.policy_json.specs.Texts.{short_text_faults}
-use Rattle.policy_json.specs.Values.{most, block_faults, block_in, request_principal_faults}
+use Rattle.policy_json.specs.Spec.{most}
+use Rattle.policy_json.specs.Values.{block_faults, block_in, request_principal_faults}
 use Rattle.policy_json.specs.declared.sources.TheConstants.{SOURCE_FIELDS, PRINCIPALS, NOT_PRINCIPALS, REQUEST_PRINCIPALS, NOT_REQUEST_PRINCIPALS, NAMESPACES, NOT_NAMESPACES, IP_BLOCKS, NOT_IP_BLOCKS, REMOTE_IP_BLOCKS, NOT_REMOTE_IP_BLOCKS}
 
 unfoldable pub source_faults : Check

@@ -13,10 +13,6 @@ use Rattle.mesh_text.specs.Parts.{is_part}
 use Rattle.policy_json.specs.Peer.{port_of}
 use Rattle.policy_json.specs.Texts.{short_text_faults}
 
--- the most entries of a list
-abbrev pub most : ℕ
-most = 2048
-
 -- a port from 1 to 65,535 in decimal
 unfoldable pub port_value_faults : Check
 port_value_faults = short_text_faults ▸ demands (λ d. is_some (port_of (text_in d))) BadPort

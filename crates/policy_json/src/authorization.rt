@@ -1,14 +1,14 @@
-ghost use Rattle.std.specs.Prelude.{◌≡◌, ◌==◌, option_map};
-ghost use Rattle.serde_json.specs.Events.{items_len};
-ghost use Rattle.serde_json.specs.View.{items_view, view};
+ghost use Rattle.std.specs.Prelude.{◌≡◌, option_map};
+ghost use Rattle.serde_json.specs.View.{view};
 ghost use Rattle.mesh_doc.specs.Faults.{Reads};
 ghost use Rattle.mesh_doc.specs.Kinds.{text_in};
-ghost use Rattle.policy_json.specs.Authorization.{action_faults, action_in, action_of, authorization_faults, authorization_in, belongs, is_empty_list, provider_faults, provider_in, provider_name_faults, targets_faults};
+ghost use Rattle.policy_json.specs.Authorization.{action_faults, action_in, action_of, authorization_faults, authorization_in, belongs, provider_faults, provider_in, provider_name_faults};
 ghost use Rattle.policy_json.specs.Spec.{spec_of};
 
 use crate::labels::{SELECTOR, Selector};
+use crate::limits::MOST;
 use crate::rules::RuleEntry;
-use crate::values::MOST;
+use crate::target_refs::no_targets;
 use mesh_doc::{
     DocError, Form, Place, Reason, Spot, listed, only_fields, optional, refuse, required,
 };
@@ -18,10 +18,6 @@ use serde_json::{Map, Value};
 use std::alloc::Global;
 
 const AUTHORIZATION_FIELDS: &str = "action provider rules selector targetRef targetRefs";
-
-const TARGET_REFS: &str = "targetRefs";
-
-const TARGET_REF: &str = "targetRef";
 
 const ACTION: &str = "action";
 
@@ -80,8 +76,7 @@ fn read_spec(
 {
     only_fields(alloc, v, AUTHORIZATION_FIELDS, place)?;
     let labels = optional::<Selector>(alloc, v, SELECTOR, place)?;
-    optional::<NoTargets>(alloc, v, TARGET_REFS, place)?;
-    optional::<NoTargets>(alloc, v, TARGET_REF, place)?;
+    no_targets(alloc, v, place)?;
     let action = optional::<ActionWord>(alloc, v, ACTION, place)?.unwrap_or(Action::Allow);
     let provider = optional::<Provider>(alloc, v, PROVIDER, place)?;
     let rules = listed::<RuleEntry>(alloc, v, RULES, MOST, place)?;
@@ -105,40 +100,6 @@ fn belongs(action: Action, provider: &Option<Text>) -> bool
         Action::Custom => provider.is_some(),
         _ => provider.is_none(),
     }
-}
-
-struct NoTargets;
-
-impl Form for NoTargets {
-    type Out = ();
-
-    ghost faults = { targets_faults };
-
-    ghost value = { λ d. tt };
-
-    #[tactic(auto, unfolding(crate::specs::Authorization::targets_faults))]
-    fn read(alloc: Global, v: &Value, at: &Spot) -> Result<(), DocError> {
-        if !is_empty_list(v) {
-            return Err(at.refuse(alloc, Reason::TargetRefs));
-        }
-        Ok(())
-    }
-}
-
-fn is_empty_list(v: &Value) -> bool
-    ensures { result ≡ is_empty_list (view v.now) }
-{
-    match v {
-        Value::Array(items) => has_none(items.as_slice()),
-        _ => false,
-    }
-}
-
-#[tactic(auto, using(crate::proofs::Counts::count_of_items))]
-fn has_none(items: &[Value]) -> bool
-    ensures { result ≡ (items_len (items_view items.now) == 0) }
-{
-    items.is_empty()
 }
 
 struct ActionWord;

@@ -4,8 +4,9 @@ ghost use Rattle.policy_json.specs.Conditions as conditions;
 ghost use Rattle.policy_json.specs.Conditions.{condition_faults, condition_in};
 
 use crate::condition_keys::{ConditionKey, KeyName};
+use crate::limits::MOST;
 use crate::texts::ShortText;
-use crate::values::{BlockValue, MOST, PortValue, RequestPrincipal};
+use crate::values::{BlockValue, PortValue, RequestPrincipal};
 use mesh_doc::{DocError, Form, Place, Reason, Spot, listed, only_fields, refuse, required};
 use mesh_policy::{Condition, TextKey};
 use mesh_text::List;

@@ -3,6 +3,7 @@ ghost use Rattle.policy_json.specs.Request.{is_empty_or_name, payload_header_fau
 ghost use Rattle.policy_json.specs.Texts.{lower_name_in};
 
 use crate::key_sets::{KeySetText, keys_of, unless_empty};
+use crate::limits::MOST;
 use crate::texts::{BoundedText, ShortText, is_name, lower};
 use crate::token_places::{FromHeader, FromParam, places_of};
 use mesh_doc::{
@@ -12,9 +13,6 @@ use mesh_policy::JwtRule;
 use mesh_text::Text;
 use serde_json::Value;
 use std::alloc::Global;
-
-/// The most entries of a list.
-pub(crate) const MOST: u32 = 2_048;
 
 const RULE_FIELDS: &str =
     "audiences forwardOriginalToken fromHeaders fromParams issuer jwks jwksUri outputPayloadToHeader";

@@ -10,6 +10,7 @@ mod conditions;
 mod jwt_rule;
 mod key_sets;
 mod labels;
+mod limits;
 mod operations;
 mod peer;
 #[cfg(test)]

@@ -1,7 +1,8 @@
 ghost use Rattle.policy_json.specs.Operations.{operation_faults, operation_in};
 
+use crate::limits::MOST;
 use crate::texts::ShortText;
-use crate::values::{MOST, PathValue, PortValue};
+use crate::values::{PathValue, PortValue};
 use mesh_doc::{DocError, Form, Spot, listed, only_fields};
 use mesh_policy::OperationSpec;
 use serde_json::Value;

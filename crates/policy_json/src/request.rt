@@ -4,8 +4,9 @@ ghost use Rattle.mesh_doc.specs.Faults.{Reads};
 ghost use Rattle.policy_json.specs.Request.{request_faults, request_in};
 ghost use Rattle.policy_json.specs.Spec.{spec_of};
 
-use crate::jwt_rule::{MOST, RuleForm};
+use crate::jwt_rule::RuleForm;
 use crate::labels::{SELECTOR, Selector};
+use crate::limits::MOST;
 use crate::target_refs::no_targets;
 use mesh_doc::{DocError, Place, listed, only_fields, optional};
 use mesh_policy::RequestAuthentication;

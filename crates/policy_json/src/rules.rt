@@ -3,9 +3,9 @@ ghost use Rattle.mesh_doc.specs.Faults.{Reads};
 ghost use Rattle.policy_json.specs.Rules.{from_faults, from_in, part_faults, part_in, rule_faults, rule_in, to_faults, to_in};
 
 use crate::conditions::WhenEntry;
+use crate::limits::MOST;
 use crate::operations::Operation;
 use crate::sources::Source;
-use crate::values::MOST;
 use mesh_doc::{DocError, Form, Place, Spot, field, listed, only_fields};
 use mesh_policy::{OperationSpec, Rule, SourceSpec};
 use serde_json::{Map, Value};

@@ -1,7 +1,8 @@
 ghost use Rattle.policy_json.specs.Sources.{source_faults, source_in};
 
+use crate::limits::MOST;
 use crate::texts::ShortText;
-use crate::values::{BlockValue, MOST, RequestPrincipal};
+use crate::values::{BlockValue, RequestPrincipal};
 use mesh_doc::{DocError, Form, Spot, listed, only_fields};
 use mesh_policy::SourceSpec;
 use serde_json::Value;

@@ -11,9 +11,6 @@ use mesh_text::{Text, contains, decimal};
 use serde_json::Value;
 use std::alloc::Global;
 
-/// The most entries that a list of a policy may have.
-pub(crate) const MOST: u32 = 2048;
-
 /// A port from 1 to 65,535, as a text of decimal digits without leading zeros: BadValue where the text has no allowed
 /// length, and BadPort for any other.
 pub(crate) struct PortValue;

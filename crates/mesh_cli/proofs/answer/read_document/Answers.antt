@@ -1,4 +1,6 @@
-use Rattle.std.proofs.Common.{◌≡◌, true, refl}
+use Rattle.std.proofs.Common.{◌≡◌, true, Option, sym, subst}
+use Rattle.serde_json.specs.Data.{Data}
+use Rattle.mesh_cli.specs.Answer.{Stops, answer_to}
 use Rattle.mesh_cli.proofs.Readings.{document-read, document-none}
 use Rattle.mesh_cli.proofs.answer.read_document.Goals as goal
 
@@ -6,5 +8,6 @@ pub returns-in-Ok-clause-ok : goal.returns-in-Ok-clause-ok
 returns-in-Ok-clause-ok c = document-read _ _ c.in-Ok.ensures.ok.0 c.in-Ok.ensures.ok.1
 
 pub returns-else-is_memory-clause-err : goal.returns-else-is_memory-clause-err
-returns-else-is_memory-clause-err c =
-    (refl, document-none c.args.bytes.now (c.in-Err.ensures.err (λ memory. let yes : c.is_memory.result ≡ true = c.is_memory.ensures.1 memory in cc)))
+returns-else-is_memory-clause-err c = λ asked.
+    let P : Option Data → Type 0 = λ reading. Stops c.refuse.result (answer_to asked reading) in
+    subst P (sym (document-none c.args.bytes.now (c.in-Err.ensures.err (λ memory. let yes : c.is_memory.result ≡ true = c.is_memory.ensures.1 memory in cc)))) c.refuse.ensures

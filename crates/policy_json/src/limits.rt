@@ -1,0 +1,2 @@
+/// The most entries of a list.
+pub(crate) const MOST: u32 = 2_048;

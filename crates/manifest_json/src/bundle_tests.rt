@@ -1,4 +1,4 @@
-use super::*;
+use crate::read_bundle;
 use mesh_doc::{DocError, Place, below_key, place_text};
 use mesh_policy::{Bundle, MeshConfig};
 use mesh_text::{List, Text};
@@ -71,281 +71,111 @@ fn outcome(rt: &impl Abort, alloc: Global, text: &str, place: &Place) -> String 
     }
 }
 
-#[test]
-fn a_document_is_its_items(rt: HostRuntime) {
-    let alloc = rt.alloc();
+/// Each row has a text, which stands between `front` and `back` in a document, and what comes of it.
+pub fn read_all(rt: &impl Abort, alloc: Global, front: &str, back: &str, rows: &str) {
     let whole: Place = List::new(alloc);
-    for (text, want) in [
-        ("1", "$: NotAList"),
-        ("null", "$: NotAList"),
-        ("[]", "$: NotAList"),
-        ("\"List\"", "$: NotAList"),
-        (r#"{"kind":"List"}"#, "root istio-system, 0 and 0"),
-        (
-            r#"{"kind":"List","items":null}"#,
-            "root istio-system, 0 and 0",
-        ),
-        (
-            r#"{"kind":"List","items":[]}"#,
-            "root istio-system, 0 and 0",
-        ),
-        (
-            r#"{"apiVersion":7,"kind":"List","items":[],"metadata":7,"spec":[],"x":null}"#,
-            "root istio-system, 0 and 0",
-        ),
-        (r#"{"kind":"List","items":{}}"#, "$/items: NotAList"),
-        (r#"{"kind":"List","items":"x"}"#, "$/items: NotAList"),
-        (r#"{"kind":"List","items":[null]}"#, "$/items/0: WrongType"),
-        (r#"{"kind":"List","items":[[]]}"#, "$/items/0: WrongType"),
-        (
-            r#"{"kind":"List","items":[{}]}"#,
-            "$/items/0/apiVersion: MissingField",
-        ),
-        (
-            r#"{"kind":"List","items":[{"apiVersion":"v1","kind":"List","items":7}]}"#,
-            "root istio-system, 0 and 1",
-        ),
-        (
-            r#"{"kind":"list","items":[]}"#,
-            "$/apiVersion: MissingField",
-        ),
-        (
-            r#"{"kind":["List"],"items":[]}"#,
-            "$/apiVersion: MissingField",
-        ),
-        ("{}", "$/apiVersion: MissingField"),
-        (
-            r#"{"apiVersion":null,"kind":7}"#,
-            "$/apiVersion: MissingField",
-        ),
-        (r#"{"apiVersion":7,"kind":7}"#, "$/apiVersion: WrongType"),
-        (r#"{"apiVersion":"v1"}"#, "$/kind: MissingField"),
-        (r#"{"apiVersion":"v1","kind":7}"#, "$/kind: WrongType"),
-        (
-            r#"{"apiVersion":"apps/v1","kind":null}"#,
-            "$/kind: MissingField",
-        ),
-    ] {
-        let outcome = outcome(&rt, alloc, text, &whole);
-        assert_eq!(rt; outcome.as_str(), want, "{text}");
+    for row in rows.split('\n') {
+        let (text, want) = row.split_once(" => ").expect(rt, "a row");
+        let document = format!(in alloc; "{front}{text}{back}").expect(rt, "memory");
+        let found = outcome(rt, alloc, document.as_str(), &whole);
+        assert_eq!(rt; found.as_str(), want, "{text}");
     }
 }
+
+const DOCUMENTS: &str = r#"1 => $: NotAList
+null => $: NotAList
+[] => $: NotAList
+"List" => $: NotAList
+{"kind":"List"} => root istio-system, 0 and 0
+{"kind":"List","items":null} => root istio-system, 0 and 0
+{"kind":"List","items":[]} => root istio-system, 0 and 0
+{"apiVersion":7,"kind":"List","items":[],"metadata":7,"spec":[],"x":null} => root istio-system, 0 and 0
+{"kind":"List","items":{}} => $/items: NotAList
+{"kind":"List","items":"x"} => $/items: NotAList
+{"kind":"List","items":[null]} => $/items/0: WrongType
+{"kind":"List","items":[[]]} => $/items/0: WrongType
+{"kind":"List","items":[{}]} => $/items/0/apiVersion: MissingField
+{"kind":"List","items":[{"apiVersion":"v1","kind":"List","items":7}]} => root istio-system, 0 and 1
+{"kind":"list","items":[]} => $/apiVersion: MissingField
+{"kind":["List"],"items":[]} => $/apiVersion: MissingField
+{} => $/apiVersion: MissingField
+{"apiVersion":null,"kind":7} => $/apiVersion: MissingField
+{"apiVersion":7,"kind":7} => $/apiVersion: WrongType
+{"apiVersion":"v1"} => $/kind: MissingField
+{"apiVersion":"v1","kind":7} => $/kind: WrongType
+{"apiVersion":"apps/v1","kind":null} => $/kind: MissingField"#;
+
+#[test]
+fn a_document_is_its_items(rt: HostRuntime) {
+    read_all(&rt, rt.alloc(), "", "", DOCUMENTS);
+}
+
+const ITEMS: &str =
+    r#"v1","kind":"Pod","metadata":{"name":"web","namespace":"foo"},"status":7,"x":null => pod foo/web, root istio-system, 0 and 0
+v1","kind":"Service","metadata":{"name":"web"} => service default/web, root istio-system, 0 and 0
+security.istio.io/v1","kind":"AuthorizationPolicy","metadata":{"name":"a"},"spec":null => authorization default/a, root istio-system, 0 and 0
+security.istio.io/v1beta1","kind":"AuthorizationPolicy","metadata":{"name":"a"} => authorization default/a, root istio-system, 0 and 0
+security.istio.io/v1","kind":"PeerAuthentication","metadata":{"name":"p"} => peer default/p, root istio-system, 0 and 0
+security.istio.io/v1beta1","kind":"PeerAuthentication","metadata":{"name":"p"},"spec":{"mtls":{"mode":"STRICT"}} => peer default/p, root istio-system, 0 and 0
+security.istio.io/v1","kind":"RequestAuthentication","metadata":{"name":"r"} => request default/r, root istio-system, 0 and 0
+security.istio.io/v1beta1","kind":"RequestAuthentication","metadata":{"name":"r"},"spec":{} => request default/r, root istio-system, 0 and 0
+mesh.profile/v1","kind":"MeshConfig" => root istio-system, 1 and 0
+mesh.profile/v1","kind":"MeshConfig","metadata":7,"spec":{"rootNamespace":"top"} => root top, 1 and 0
+v1","kind":"Node" => root istio-system, 0 and 1
+v1","kind":"MeshConfig" => root istio-system, 0 and 1
+v1","kind":"pod" => root istio-system, 0 and 1
+v1","kind":"" => root istio-system, 0 and 1
+","kind":"Pod" => root istio-system, 0 and 1
+apps/v1","kind":"Pod" => root istio-system, 0 and 1
+networking.istio.io/v1","kind":"AuthorizationPolicy","metadata":7 => root istio-system, 0 and 1
+security.istio.io","kind":"PeerAuthentication" => root istio-system, 0 and 1
+mesh.profile","kind":"MeshConfig" => root istio-system, 0 and 1
+security.istio.io/v1","kind":"Gateway" => $/kind: WrongKind
+security.istio.io/v1","kind":"Pod" => $/kind: WrongKind
+security.istio.io/v2","kind":"AuthorizationPolicy" => $/kind: WrongKind
+security.istio.io/","kind":"" => $/kind: WrongKind
+mesh.profile/v1","kind":"PeerAuthentication" => $/kind: WrongKind
+mesh.profile/v2","kind":"MeshConfig" => $/kind: WrongKind
+v1","kind":"Pod" => $/metadata: MissingField
+v1","kind":"Service","metadata":{"name":"web"},"spec":{"ports":1} => $/spec/ports: WrongType
+security.istio.io/v1","kind":"AuthorizationPolicy","spec":7 => $/metadata: MissingField
+security.istio.io/v1","kind":"AuthorizationPolicy","metadata":{"name":"a","annotations":{"istio.io/dry-run":"true"}} => $/metadata/annotations/istio.io~1dry-run: DryRun
+security.istio.io/v1","kind":"AuthorizationPolicy","metadata":{"name":"a"},"spec":{"action":"CUSTOM"} => $/spec: ProviderRule
+security.istio.io/v1","kind":"PeerAuthentication","metadata":{"name":"p","creationTimestamp":"now"},"spec":7 => $/metadata/creationTimestamp: BadTime
+security.istio.io/v1","kind":"PeerAuthentication","metadata":{"name":"p"},"spec":{"mtls":{"mode":"X"}} => $/spec/mtls/mode: BadEnum
+security.istio.io/v1","kind":"RequestAuthentication","metadata":{"name":"r"},"spec":{"jwtRules":[{}]} => $/spec/jwtRules/0/issuer: MissingField
+mesh.profile/v1","kind":"MeshConfig","spec":[] => $/spec: WrongType"#;
 
 #[test]
 fn an_item_is_read_by_its_kind(rt: HostRuntime) {
-    let alloc = rt.alloc();
-    let whole: Place = List::new(alloc);
-    for (version, kind, rest, want) in [
-        (
-            "v1",
-            "Pod",
-            r#","metadata":{"name":"web","namespace":"foo"},"status":7,"x":null"#,
-            "pod foo/web, root istio-system, 0 and 0",
-        ),
-        (
-            "v1",
-            "Service",
-            r#","metadata":{"name":"web"}"#,
-            "service default/web, root istio-system, 0 and 0",
-        ),
-        (
-            "security.istio.io/v1",
-            "AuthorizationPolicy",
-            r#","metadata":{"name":"a"},"spec":null"#,
-            "authorization default/a, root istio-system, 0 and 0",
-        ),
-        (
-            "security.istio.io/v1beta1",
-            "PeerAuthentication",
-            r#","metadata":{"name":"p"},"spec":{"mtls":{"mode":"STRICT"}}"#,
-            "peer default/p, root istio-system, 0 and 0",
-        ),
-        (
-            "security.istio.io/v1beta1",
-            "RequestAuthentication",
-            r#","metadata":{"name":"r"}"#,
-            "request default/r, root istio-system, 0 and 0",
-        ),
-        (
-            "mesh.profile/v1",
-            "MeshConfig",
-            "",
-            "root istio-system, 1 and 0",
-        ),
-        (
-            "mesh.profile/v1",
-            "MeshConfig",
-            r#","metadata":7,"spec":{"rootNamespace":"top"}"#,
-            "root top, 1 and 0",
-        ),
-        ("v1", "Node", "", "root istio-system, 0 and 1"),
-        ("v1", "MeshConfig", "", "root istio-system, 0 and 1"),
-        ("v1", "", "", "root istio-system, 0 and 1"),
-        ("", "Pod", "", "root istio-system, 0 and 1"),
-        ("apps/v1", "Pod", "", "root istio-system, 0 and 1"),
-        (
-            "networking.istio.io/v1",
-            "AuthorizationPolicy",
-            r#","metadata":7"#,
-            "root istio-system, 0 and 1",
-        ),
-        (
-            "security.istio.io",
-            "PeerAuthentication",
-            "",
-            "root istio-system, 0 and 1",
-        ),
-        (
-            "mesh.profile",
-            "MeshConfig",
-            "",
-            "root istio-system, 0 and 1",
-        ),
-        ("security.istio.io/v1", "Gateway", "", "$/kind: WrongKind"),
-        ("security.istio.io/v1", "Pod", "", "$/kind: WrongKind"),
-        (
-            "security.istio.io/v2",
-            "AuthorizationPolicy",
-            "",
-            "$/kind: WrongKind",
-        ),
-        ("security.istio.io/", "", "", "$/kind: WrongKind"),
-        (
-            "mesh.profile/v1",
-            "PeerAuthentication",
-            "",
-            "$/kind: WrongKind",
-        ),
-        ("mesh.profile/v2", "MeshConfig", "", "$/kind: WrongKind"),
-        ("v1", "Pod", "", "$/metadata: MissingField"),
-        (
-            "security.istio.io/v1",
-            "AuthorizationPolicy",
-            r#","spec":7"#,
-            "$/metadata: MissingField",
-        ),
-        (
-            "security.istio.io/v1",
-            "PeerAuthentication",
-            r#","metadata":{"name":"p","creationTimestamp":"now"},"spec":7"#,
-            "$/metadata/creationTimestamp: BadTime",
-        ),
-        (
-            "security.istio.io/v1",
-            "AuthorizationPolicy",
-            r#","metadata":{"name":"a","annotations":{"istio.io/dry-run":"true"}}"#,
-            "$/metadata/annotations/istio.io~1dry-run: DryRun",
-        ),
-        (
-            "security.istio.io/v1",
-            "RequestAuthentication",
-            r#","metadata":{"name":"r"},"spec":{"jwtRules":[{}]}"#,
-            "$/spec/jwtRules/0/issuer: MissingField",
-        ),
-    ] {
-        let text = format!(in alloc;
-            r#"{{"apiVersion":"{version}","kind":"{kind}"{rest}}}"#
-        ).expect(&rt, "memory");
-        let outcome = outcome(&rt, alloc, text.as_str(), &whole);
-        assert_eq!(rt; outcome.as_str(), want, "{text}");
-    }
+    read_all(&rt, rt.alloc(), r#"{"apiVersion":""#, "}", ITEMS);
 }
 
-// The items of a List, each by its `apiVersion`, its `kind` and what stands behind them.
+const PAIRS: &str =
+    r#"v1","kind":"Pod","metadata":{"name":"m","namespace":"foo"}},{"apiVersion":"v1","kind":"Pod","metadata":{"name":"m"} => pod foo/m, pod default/m, root istio-system, 0 and 0
+v1","kind":"Pod","metadata":{"name":"m"}},{"apiVersion":"v1","kind":"Pod","metadata":{"name":"n"} => pod default/m, pod default/n, root istio-system, 0 and 0
+v1","kind":"Service","metadata":{"name":"m"}},{"apiVersion":"v1","kind":"Pod","metadata":{"name":"m"} => pod default/m, service default/m, root istio-system, 0 and 0
+security.istio.io/v1","kind":"PeerAuthentication","metadata":{"name":"m"}},{"apiVersion":"security.istio.io/v1","kind":"AuthorizationPolicy","metadata":{"name":"m"} => authorization default/m, peer default/m, root istio-system, 0 and 0
+v1","kind":"Node","metadata":{"name":"m"}},{"apiVersion":"v1","kind":"Node","metadata":{"name":"m"} => root istio-system, 0 and 2
+v1","kind":"Node"},{"apiVersion":"mesh.profile/v1","kind":"MeshConfig","spec":{"rootNamespace":"top"} => root top, 1 and 1
+v1","kind":"Pod","metadata":{"name":"m"}},{"apiVersion":"v1","kind":"Pod","metadata":{"name":"m"} => $/items/1: DuplicateItem
+v1","kind":"Service","metadata":{"name":"m","namespace":"default"}},{"apiVersion":"v1","kind":"Service","metadata":{"name":"m"} => $/items/1: DuplicateItem
+security.istio.io/v1","kind":"AuthorizationPolicy","metadata":{"name":"m"}},{"apiVersion":"security.istio.io/v1beta1","kind":"AuthorizationPolicy","metadata":{"name":"m"} => $/items/1: DuplicateItem
+security.istio.io/v1beta1","kind":"PeerAuthentication","metadata":{"name":"m"}},{"apiVersion":"security.istio.io/v1","kind":"PeerAuthentication","metadata":{"name":"m"} => $/items/1: DuplicateItem
+security.istio.io/v1","kind":"RequestAuthentication","metadata":{"name":"m"}},{"apiVersion":"security.istio.io/v1","kind":"RequestAuthentication","metadata":{"name":"m"} => $/items/1: DuplicateItem
+security.istio.io/v1","kind":"PeerAuthentication","metadata":{"name":"m"}},{"apiVersion":"security.istio.io/v1","kind":"PeerAuthentication","metadata":{"name":"m"},"spec":7 => $/items/1/spec: WrongType
+v1","kind":"Pod","metadata":{"name":"m"}},{"apiVersion":"v1","kind":"Pod","metadata":{"name":"m"}},{"apiVersion":"v1","kind":"Pod" => $/items/1: DuplicateItem
+v1","kind":"Pod","metadata":{"name":"m"}},{"apiVersion":"v1","kind":"Node"},{"apiVersion":"v1","kind":"Pod","metadata":{"name":"m"} => $/items/2: DuplicateItem
+mesh.profile/v1","kind":"MeshConfig","metadata":{"name":"m"}},{"apiVersion":"mesh.profile/v1","kind":"MeshConfig","metadata":{"name":"n"} => $/items/1: DuplicateItem
+mesh.profile/v1","kind":"MeshConfig","spec":{"rootNamespace":"top"}},{"apiVersion":"mesh.profile/v1","kind":"MeshConfig","spec":7 => $/items/1/spec: WrongType"#;
+
 #[test]
 fn no_item_comes_twice(rt: HostRuntime) {
-    let alloc = rt.alloc();
-    let whole: Place = List::new(alloc);
-    let foo = r#","metadata":{"name":"m","namespace":"foo"}"#;
-    let default = r#","metadata":{"name":"m","namespace":"default"}"#;
-    let unwritten = r#","metadata":{"name":"m"}"#;
-    let wrong = r#","metadata":{"name":"m","namespace":"foo"},"spec":7"#;
-    for (first, second, want) in [
-        (
-            ("v1", "Pod", foo),
-            ("v1", "Pod", default),
-            "pod foo/m, pod default/m, root istio-system, 0 and 0",
-        ),
-        (
-            ("v1", "Pod", foo),
-            ("v1", "Service", foo),
-            "pod foo/m, service foo/m, root istio-system, 0 and 0",
-        ),
-        (
-            ("security.istio.io/v1", "PeerAuthentication", foo),
-            ("security.istio.io/v1", "AuthorizationPolicy", foo),
-            "authorization foo/m, peer foo/m, root istio-system, 0 and 0",
-        ),
-        (
-            ("v1", "Pod", foo),
-            ("v1", "Pod", foo),
-            "$/items/1: DuplicateItem",
-        ),
-        (
-            ("v1", "Service", default),
-            ("v1", "Service", unwritten),
-            "$/items/1: DuplicateItem",
-        ),
-        (
-            ("security.istio.io/v1", "AuthorizationPolicy", foo),
-            ("security.istio.io/v1beta1", "AuthorizationPolicy", foo),
-            "$/items/1: DuplicateItem",
-        ),
-        (
-            ("security.istio.io/v1beta1", "PeerAuthentication", foo),
-            ("security.istio.io/v1", "PeerAuthentication", foo),
-            "$/items/1: DuplicateItem",
-        ),
-        (
-            ("security.istio.io/v1", "RequestAuthentication", foo),
-            ("security.istio.io/v1", "RequestAuthentication", foo),
-            "$/items/1: DuplicateItem",
-        ),
-        (
-            ("security.istio.io/v1", "PeerAuthentication", foo),
-            ("security.istio.io/v1", "PeerAuthentication", wrong),
-            "$/items/1/spec: WrongType",
-        ),
-        (
-            ("mesh.profile/v1", "MeshConfig", foo),
-            ("mesh.profile/v1", "MeshConfig", default),
-            "$/items/1: DuplicateItem",
-        ),
-        (
-            (
-                "mesh.profile/v1",
-                "MeshConfig",
-                r#","spec":{"rootNamespace":"top"}"#,
-            ),
-            ("mesh.profile/v1", "MeshConfig", wrong),
-            "$/items/1/spec: WrongType",
-        ),
-        (
-            ("v1", "Pod", foo),
-            (
-                "mesh.profile/v1",
-                "MeshConfig",
-                r#","spec":{"rootNamespace":"top"}"#,
-            ),
-            "pod foo/m, root top, 1 and 0",
-        ),
-        (
-            ("v1", "Node", foo),
-            ("v1", "Node", foo),
-            "root istio-system, 0 and 2",
-        ),
-    ] {
-        let text = format!(in alloc;
-            r#"{{"kind":"List","items":[{{"apiVersion":"{}","kind":"{}"{}}},{{"apiVersion":"{}","kind":"{}"{}}}]}}"#,
-            first.0, first.1, first.2, second.0, second.1, second.2
-        )
-        .expect(&rt, "memory");
-        let outcome = outcome(&rt, alloc, text.as_str(), &whole);
-        assert_eq!(rt; outcome.as_str(), want, "{text}");
-    }
+    let front = r#"{"kind":"List","items":[{"apiVersion":""#;
+    read_all(&rt, rt.alloc(), front, "}]}", PAIRS);
 }
 
-// A List of that many items of another kind, in a document that is itself a field.
+// A List of that many items of another kind.
 fn long_list(rt: &impl Abort, alloc: Global, items: u32) -> String {
     let mut text = String::from_str(alloc, r#"{"kind":"List","items":["#).expect(rt, "memory");
     for i in 0..items {

@@ -11,6 +11,8 @@ mod items;
 mod key;
 mod kind_table;
 mod mesh_config;
+#[cfg(test)]
+mod mesh_tests;
 mod metadata;
 #[cfg(test)]
 mod metadata_tests;

@@ -1,5 +1,5 @@
 -- An input that a command answers with a text is not refused, and that text is the one.
-use Rattle.std.proofs.Common.{◌≡◌, ℕ, ◌<◌, ◌≤◌, Bool, true, false, cond, List, [], length, nat_lt, Option, Some, None, IfSome, refl, sym, subst, ◌∙◌, ap, arith}
+use Rattle.std.proofs.Common.{◌≡◌, ℕ, ◌<◌, ◌≤◌, Bool, true, false, cond, List, length, nat_lt, Option, Some, None, IfSome, refl, sym, subst, ◌∙◌, ap, arith}
 use Rattle.std.proofs.lemmas.Bool.{ltb-true}
 use Rattle.manifest_json.specs.BundleItems.{bundle_in}
 use Rattle.mesh_cli.specs.Answer.{Answer, writes, refuses, too_long, answer_of, answer_to, answer_unless, answer_with, answer_for, translation, document_of, listener_text, max_input}

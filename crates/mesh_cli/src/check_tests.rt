@@ -21,11 +21,14 @@ fn repeat(alloc: Global, piece: &str, count: u32) -> Result<String, AllocError> 
 // The line that `check` puts out, or into the notes.
 fn line(alloc: Global, input: &str) -> Result<String, Fail> {
     let ended = clean(alloc, &["check"], input)?;
-    let line = match ended.status {
-        Status::Done => ended.output.taken(),
-        _ => ended.notes.taken(),
-    };
-    let text = std::str::from_utf8(line).ok().ok_or("UTF-8")?;
+    match ended.status {
+        Status::Done => text_of(alloc, ended.output.taken()),
+        _ => text_of(alloc, ended.notes.taken()),
+    }
+}
+
+fn text_of(alloc: Global, bytes: &[u8]) -> Result<String, Fail> {
+    let text = std::str::from_utf8(bytes).ok().ok_or("UTF-8")?;
     Ok(String::from_str(alloc, text)?)
 }
 

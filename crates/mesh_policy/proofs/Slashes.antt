@@ -1,10 +1,10 @@
 -- Texts cut at their slashes.
-use Rattle.std.proofs.Common.{◌≡◌, ◌≢◌, ℕ, ◌+◌, ◌<◌, ◌&&◌, ◌||◌, not, Bool, true, false, cond, List, [], ◌∷◌, ◌++◌, Option, Some, None, length, take, drop, get_or, ap, sym, subst, ◌∙◌, refl, arith, lit<, Bor}
+use Rattle.std.proofs.Common.{◌≡◌, ℕ, ◌+◌, ◌&&◌, ◌||◌, not, Bool, true, false, cond, List, [], ◌∷◌, ◌++◌, Some, None, length, take, drop, ap, sym, ◌∙◌, refl, arith, lit<, Bor}
 use Rattle.std.proofs.Math.Seq.{take-append_seam}
 use Rattle.std.proofs.lemmas.Bool.Decides.{Decides-eqb}
 use Rattle.std.proofs.lemmas.List.Splits.{slice_split-cons_yes, slice_split-cons_no, slice_split_first, join_with_byte-slice_split}
 use Rattle.std.proofs.lemmas.Str.Pattern.{IsSplitOnceResult, split_once_first, split_parts}
-use Rattle.std.specs.List.{after_first, before_first, join_with_byte, onto_first, position_or_len, slice_split}
+use Rattle.std.specs.List.{after_first, before_first, join_with_byte, onto_first, position_or_len}
 use Prim.Native.Nat.{suc}
 use lib.Dec.{eqb}
 use Rattle.mesh_policy.proofs.TokenLemmas.{lacks_byte}

@@ -10,7 +10,7 @@ use Rattle.std.specs.List.{after_first, before_first, concat, ends_with, join_wi
 use Rattle.std.specs.Str.{bytes_eq}
 use lib.Dec.{eqb}
 use Rattle.mesh_policy.proofs.Slashes.{neither, both, and_true, not_true, not_false, is_false, before_seam, after_seam, slash_seam, cut, SlashFree, slash_free, HasSegment, some_segment, join_split, split_plain, one_more, no_more, parts_are}
-use Rattle.mesh_policy.specs.Templates.{Piece, literal, one_segment, any_text, StandsFor, StandFor, TemplateHolds, has_slash, segments_of, piece_of, pieces_of, is_operator, any_is_last, is_uri, uri_pieces, stands_for, segments_hold, template_holds, is_form, is_segment}
+use Rattle.mesh_policy.specs.Templates.{Piece, literal, one_segment, any_text, StandsFor, StandFor, TemplateHolds, has_slash, segments_of, piece_of, pieces_of, is_operator, any_is_last, is_uri, uri_pieces, stands_for, segments_hold, template_holds, is_segment}
 use Rattle.std.specs.List.{list_all}
 
 abbrev one : List ℕ

@@ -1,10 +1,10 @@
 -- What std's searches of texts give, in the words of Tokens.
-use Rattle.std.proofs.Common.{◌≡◌, ◌≢◌, ℕ, ◌+◌, ◌-◌, ◌<◌, Bool, true, false, List, [], ◌∷◌, ◌++◌, Option, Some, None, if◌then◌else◌, length, drop, get_or, ap, sym, ◌∙◌, refl, arith, nat_eq, Bor}
+use Rattle.std.proofs.Common.{◌≡◌, ◌≢◌, ℕ, ◌+◌, ◌<◌, Bool, true, false, List, [], ◌∷◌, Option, Some, None, if◌then◌else◌, length, drop, get_or, ap, sym, ◌∙◌, refl, arith, Bor}
 use Rattle.std.proofs.lemmas.Bool.Decides.{Decides-eqb}
 use Rattle.std.proofs.lemmas.Slice.Eq.{starts_is}
 use Rattle.std.specs.List.{list_any, starts_with}
 use Rattle.std.specs.Option.{MatchOption, option_copied, option_map}
-use Rattle.std.specs.Str.Pattern.{FindsTextPrefix, LacksTextAt}
+use Rattle.std.specs.Str.Pattern.{FindsTextPrefix}
 use Prim.Native.Nat.{suc}
 use lib.Dec.{eqb}
 use Rattle.mesh_policy.specs.Tokens.{behind, value_in}

@@ -5,10 +5,10 @@ use Rattle.std.proofs.lemmas.Slice.Eq.{bytes_eq-Decides}
 use Rattle.std.specs.List.{join_with_byte, list_all, list_any}
 use Rattle.std.specs.Str.{bytes_eq}
 use lib.Dec.{eqb}
-use Rattle.mesh_policy.proofs.Slashes.{neither, both, and_true, or_second, is_false, SlashFree, slash_free, HasSegment, some_segment, split_join, split_plain, one_more, no_more}
+use Rattle.mesh_policy.proofs.Slashes.{both, and_true, or_second, is_false, SlashFree, slash_free, HasSegment, some_segment, split_join, split_plain, one_more, no_more}
 use Rattle.std.proofs.lemmas.Str.Pattern.{IsSplitOnceResult}
 use Rattle.mesh_policy.proofs.TemplateLemmas.{piece_literal}
-use Rattle.mesh_policy.specs.Templates.{Piece, literal, has_slash, segments_of, piece_of, pieces_of, is_operator, is_plain, is_segment, any_is_last, is_form, is_template, is_uri, template_pieces, uri_pieces, uri_segment, uri_of}
+use Rattle.mesh_policy.specs.Templates.{literal, has_slash, segments_of, piece_of, pieces_of, is_operator, is_plain, is_segment, any_is_last, is_form, is_template, is_uri, template_pieces, uri_pieces, uri_segment, uri_of}
 
 abbrev one : List ℕ
 one = codes "*"

@@ -2,7 +2,7 @@
 -- section 3.4, and its pairs as HTML forms write them).
 use Rattle.std.specs.Prelude.{ℕ, ◌==◌, nat_eq, Bool, ◌&&◌, List, [], ◌∷◌, length, drop, find, Option, Some, None, if◌then◌else◌}
 use Rattle.std.specs.List.{after_first, before_first, list_any, slice_split, starts_with}
-use Rattle.std.specs.Option.{option_and_then, option_map}
+use Rattle.std.specs.Option.{option_map}
 use Rattle.std.specs.Str.{bytes_eq, str_to_ascii_lowercase}
 use Rattle.mesh_policy.specs.declared.jwt.TokenPlace.{TokenPlace}
 use Rattle.mesh_policy.specs.declared.jwt.TokenPlace.TheVariants.{Header, Param}

@@ -166,7 +166,8 @@ impl Entry for PortEntry {
     }
 }
 
-fn port_named(key: &str) -> Option<u16>
+/// The port that a text is: from 1 to 65,535, in decimal without leading zeros.
+pub(crate) fn port_named(key: &str) -> Option<u16>
     ensures { result ≡ port_of key.now }
 {
     match decimal(key) {

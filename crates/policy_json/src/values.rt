@@ -1,13 +1,13 @@
 ghost use Rattle.std.specs.Prelude.{◌≡◌};
 ghost use Rattle.mesh_doc.specs.Kinds.{text_in};
-ghost use Rattle.policy_json.specs.Peer.{port_of};
 ghost use Rattle.policy_json.specs.Values.{block_faults, block_in, has_few_slashes, has_operator, is_path, path_faults, port_value_faults, port_value_in, request_principal_faults};
 
+use crate::peer::port_named;
 use crate::texts::{ShortText, is_short};
 use mesh_doc::{DocError, Form, Reason, Spot};
 use mesh_net::{Cidr, parse_cidr};
 use mesh_policy::Template;
-use mesh_text::{Text, contains, decimal};
+use mesh_text::{Text, contains};
 use serde_json::Value;
 use std::alloc::Global;
 
@@ -30,19 +30,10 @@ impl Form for PortValue {
         if !is_short(text.as_str()) {
             return Err(at.refuse(alloc, Reason::BadValue));
         }
-        match port(text.as_str()) {
+        match port_named(text.as_str()) {
             Some(port) => Ok(port),
             None => Err(at.refuse(alloc, Reason::BadPort)),
         }
-    }
-}
-
-fn port(text: &str) -> Option<u16>
-    ensures { result ≡ port_of text.now }
-{
-    match decimal(text) {
-        Some(port) if port > 0 => Some(port),
-        _ => None,
     }
 }
 

@@ -1,4 +1,4 @@
-use Rattle.std.proofs.Common.{◌≡◌, ℕ, List, ◌++◌, length, string_bytes, ap, ◌∙◌}
+use Rattle.std.proofs.Common.{◌≡◌, ℕ, List, ◌++◌, length, ap, ◌∙◌}
 use Rattle.mesh_cli.specs.Counts.{count_text, counts_text}
 use Rattle.mesh_cli.specs.declared.counts.TheConstants.{PODS, SERVICES, AUTHORIZATION, PEER, REQUEST, MESH, OTHER}
 use Rattle.mesh_cli.proofs.counts.counts_text.Goals as goal

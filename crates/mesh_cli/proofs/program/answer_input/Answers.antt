@@ -1,7 +1,6 @@
-use Rattle.std.proofs.Common.{◌≡◌, ℕ, List, Err, string_bytes, subst, sym, ap, ◌∙◌}
+use Rattle.std.proofs.Common.{ℕ, List, Err, string_bytes, subst, ap, ◌∙◌}
 use Rattle.manifest_json.specs.BundleItems.{bundle_in}
-use Rattle.mesh_cli.specs.Answer.{Answer, too_long}
-use Rattle.mesh_cli.specs.Command.{translate}
+use Rattle.mesh_cli.specs.Answer.{Answer}
 use Rattle.mesh_cli.specs.Ends.{Answers}
 use Rattle.mesh_cli.specs.Headline.{Accepted, Enforces}
 use Rattle.mesh_cli.specs.Meant.{meant}

@@ -3,7 +3,7 @@ use Rattle.std.proofs.Common.{◌≡◌, ℕ, List, ◌++◌, Some, map, string_
 use Rattle.std.specs.Io.KnownBytes.{Appends}
 use Rattle.manifest_json.specs.BundleItems.{bundle_in}
 use Rattle.mesh_cli.specs.Answer.{listener_text, newline, refuses}
-use Rattle.mesh_cli.specs.Command.{Command, command_of, translate}
+use Rattle.mesh_cli.specs.Command.{command_of, translate}
 use Rattle.mesh_cli.specs.Meant.{meant}
 use Rattle.mesh_cli.proofs.Booleans.{some-same}
 use Rattle.mesh_cli.proofs.Served.{same-answer, no-refusal, accepted-writes}

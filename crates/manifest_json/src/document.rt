@@ -21,10 +21,10 @@ const ITEMS: &str = "items";
 
 const MOST_ITEMS: u32 = 4096;
 
-/// The manifests of the document `v` at `place`: the items of a List (Kubernetes API reference, "Resource
-/// categories"), or the one item that it is. Its first fault in reading order is told, with its place: NotAList where
-/// it is no object or its `items` are no list, TooMany for more than 4,096 items, those of each item, and then
-/// DuplicateItem. Memory is the one other error, and nothing else is asked of the document.
+/// The manifests of the document `v` at `place`: the items of a List (Kubernetes API Conventions, "Types (Kinds)"), or
+/// the one item that it is. Its first fault in reading order is told, with its place: NotAList where it is no object or
+/// its `items` are no list, TooMany for more than 4,096 items, those of each item, and then DuplicateItem. Memory is
+/// the one other error. A caller's proof needs no more than this clause.
 #[tactic(auto, unfolding(crate::specs::BundleItems::bundle_faults, crate::specs::BundleItems::bundle_in, crate::specs::BundleItems::items_in))]
 pub fn read_bundle(alloc: Global, v: &Value, place: &Place) -> Result<Bundle, DocError>
     ensures { Reads result

@@ -1,6 +1,7 @@
 // `check` over documents in memory: its counts, and what it says of broken manifests.
 use crate::Status;
-use crate::tests::clean;
+use crate::tests::{clean, run_over, sink};
+use mesh_edge::MemorySource;
 use std::alloc::{AllocError, Global};
 use std::test::Fail;
 
@@ -35,6 +36,23 @@ fn text_of(alloc: Global, bytes: &[u8]) -> Result<String, Fail> {
 // A lone policy with this `spec`.
 fn policy(alloc: Global, spec: &str) -> Result<String, AllocError> {
     format!(in alloc; "{{{POLICY},\"spec\":{spec}}}")
+}
+
+#[test]
+fn a_byte_off_utf_8(rt: HostRuntime) -> Result<(), Fail> {
+    let alloc = rt.alloc();
+    let bytes = [255].to_vec(alloc)?;
+    let input = MemorySource::new(bytes, Vec::new(alloc), 4096);
+    let ended = run_over(
+        alloc,
+        &["check"],
+        input,
+        sink(alloc, &[])?,
+        sink(alloc, &[])?,
+    )?;
+    assert_eq!(rt; ended.status, Status::Refused);
+    assert_eq!(rt; ended.notes.taken(), "refused: input: NotJson\n".as_bytes());
+    Ok(())
 }
 
 #[test]

@@ -81,12 +81,13 @@ fn source(alloc: Global, input: &str, fails: &[u64]) -> Result<MemorySource, All
     Ok(MemorySource::new(bytes, fails.to_vec(alloc)?, 4096))
 }
 
-// A sink with room for 16,384 bytes, whose writes of these numbers fail.
-fn sink(alloc: Global, fails: &[u64]) -> Result<MemorySink, AllocError> {
+/// A sink with room for 16,384 bytes, whose writes of these numbers fail.
+pub fn sink(alloc: Global, fails: &[u64]) -> Result<MemorySink, AllocError> {
     MemorySink::new(alloc, 16384, fails.to_vec(alloc)?, 4096, false)
 }
 
-fn run_over(
+/// A run over these streams.
+pub fn run_over(
     alloc: Global,
     words: &[&str],
     source: MemorySource,

@@ -11,8 +11,7 @@ use Rattle.mesh_policy.specs.declared.policy.SourceSpec.{SourceSpec}
 use Rattle.policy_json.specs.Conditions.{condition_faults, condition_in}
 use Rattle.policy_json.specs.Operations.{operation_faults, operation_in}
 use Rattle.policy_json.specs.Sources.{source_faults, source_in}
-use Rattle.policy_json.specs.Spec.{spec_of}
-use Rattle.policy_json.specs.Spec.{most}
+use Rattle.policy_json.specs.Spec.{most, spec_of}
 use Rattle.policy_json.specs.declared.rules.TheConstants.{RULE_FIELDS, FROM, TO, WHEN, SOURCE, OPERATION}
 
 -- a field with an object; one that is not there is as the empty object

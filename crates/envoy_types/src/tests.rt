@@ -3,6 +3,7 @@ use crate::{
     ChainBody, ChainMatch, FilterChain, Listener, NetworkFilter, PermissionLeaf, Principal, Rbac,
     RbacAction, RbacPolicy, RbacRules, Transport, envoy_verdict,
 };
+use mesh_net::IpAddr;
 use mesh_policy::{Case, Outcome, Tls};
 use mesh_text::{List, Memory, Text};
 use std::alloc::Global;
@@ -77,12 +78,26 @@ fn listener(alloc: Global) -> Result<Listener, Memory> {
     })
 }
 
+// A connection without a request.
+fn connection(alloc: Global, port: u16, tls: Option<Tls>) -> Case {
+    Case {
+        source: IpAddr::V4(0x0a000001),
+        remote: IpAddr::V4(0x0a000001),
+        destination: IpAddr::V4(0x0a000002),
+        port,
+        tls,
+        request: None,
+        verdicts: List::new(alloc),
+        answers: List::new(alloc),
+    }
+}
+
 #[test]
 fn plain_text(rt: HostRuntime) -> Result<(), Fail> {
     let alloc = rt.alloc();
     let listener = listener(alloc).ok().ok_or("memory")?;
     for (port, outcome) in [(9000, Outcome::Closed), (9001, Outcome::Admitted)] {
-        let case = Case { port, tls: None };
+        let case = connection(alloc, port, None);
         let verdict = envoy_verdict(&listener, &case);
         assert_eq!(rt; verdict.outcome, outcome);
         assert_eq!(rt; verdict.audited, false);
@@ -110,10 +125,7 @@ fn encrypted(rt: HostRuntime) -> Result<(), Fail> {
             sni: None,
             alpn,
         };
-        let case = Case {
-            port: 9001,
-            tls: Some(tls),
-        };
+        let case = connection(alloc, 9001, Some(tls));
         assert_eq!(rt; envoy_verdict(&listener, &case).outcome, outcome);
     }
     Ok(())

@@ -1,5 +1,5 @@
 use crate::read_bundle;
-use mesh_doc::{DocError, Place, below_key, place_text};
+use mesh_doc::{DocError, Place, Spot, place_text};
 use mesh_policy::{Bundle, MeshConfig};
 use mesh_text::{List, Text};
 use serde_json::Value;
@@ -190,7 +190,9 @@ fn long_list(rt: &impl Abort, alloc: Global, items: u32) -> String {
 fn a_list_has_at_most_4096_items(rt: HostRuntime) {
     let alloc = rt.alloc();
     let whole: Place = List::new(alloc);
-    let place = below_key(alloc, &whole, "manifests").expect(&rt, "memory");
+    let place = Spot::key(&Spot::of(&whole), "manifests")
+        .place(alloc)
+        .expect(&rt, "memory");
     for (items, want) in [
         (4096, "root istio-system, 0 and 4096"),
         (4097, "$/manifests/items: TooMany"),

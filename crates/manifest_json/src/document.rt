@@ -10,7 +10,7 @@ ghost use Rattle.manifest_json.specs.ItemForms.{after_item, item_faults, item_in
 
 use crate::gather::{add, gather, no_items};
 use crate::items::{KIND, read_item};
-use mesh_doc::{DocError, Place, Reason, Spot, below_key, field, refuse};
+use mesh_doc::{DocError, Place, Reason, Spot, field};
 use mesh_policy::Bundle;
 use serde_json::Value;
 use std::alloc::Global;
@@ -31,13 +31,14 @@ pub fn read_bundle(alloc: Global, v: &Value, place: &Place) -> Result<Bundle, Do
         (bundles.bundle_faults (view v.now) place.now)
         (bundles.bundle_in (view v.now)) }
 {
+    let at = Spot::of(place);
     let Value::Object(_) = v else {
-        return Err(refuse(alloc, place, Reason::NotAList));
+        return Err(at.refuse(alloc, Reason::NotAList));
     };
     if is_list(v) {
-        read_list(alloc, v, place)
+        read_list(alloc, v, &at)
     } else {
-        read_alone(alloc, v, place)
+        read_alone(alloc, v, &at)
     }
 }
 
@@ -52,48 +53,48 @@ fn is_list(v: &Value) -> bool
 }
 
 #[tactic(auto, unfolding(mesh_doc::specs::Fields::optional, mesh_doc::specs::Lists::listed_in))]
-fn read_list(alloc: Global, v: &Value, place: &Place) -> Result<Bundle, DocError>
+fn read_list(alloc: Global, v: &Value, at: &Spot) -> Result<Bundle, DocError>
     ensures { Reads result
-        (fields.optional ITEMS.now bundles.items_faults (view v.now) place.now)
+        (fields.optional ITEMS.now bundles.items_faults (view v.now) at.now)
         (bundles.bundle_of (lists.listed_in ITEMS.now item_in (view v.now))) }
 {
     match field(v, ITEMS) {
-        Some(items) => read_items(alloc, items, &below_key(alloc, place, ITEMS)?),
+        Some(items) => read_items(alloc, items, &Spot::key(at, ITEMS)),
         None => Ok(no_items(alloc)?),
     }
 }
 
 #[tactic(auto, unfolding(crate::specs::BundleItems::items_faults, mesh_doc::specs::Lists::list_in))]
-fn read_items(alloc: Global, v: &Value, place: &Place) -> Result<Bundle, DocError>
+fn read_items(alloc: Global, v: &Value, at: &Spot) -> Result<Bundle, DocError>
     ensures { Reads result
-        (bundles.items_faults (view v.now) place.now)
+        (bundles.items_faults (view v.now) at.now)
         (bundles.bundle_of (lists.list_in item_in (view v.now))) }
 {
     match v {
-        Value::Array(items) => short_list(alloc, items.as_slice(), place),
-        _ => Err(refuse(alloc, place, Reason::NotAList)),
+        Value::Array(items) => short_list(alloc, items.as_slice(), at),
+        _ => Err(at.refuse(alloc, Reason::NotAList)),
     }
 }
 
 #[tactic(auto, using(crate::proofs::Counts::count_of_items))]
-fn short_list(alloc: Global, items: &[Value], place: &Place) -> Result<Bundle, DocError>
+fn short_list(alloc: Global, items: &[Value], at: &Spot) -> Result<Bundle, DocError>
     ensures { Reads result
-        (entries_in_turn MOST_ITEMS next_faults after_item [] (items_view items.now) place.now)
+        (entries_in_turn MOST_ITEMS next_faults after_item [] (items_view items.now) at.now)
         (bundles.bundle_of (lists.each_in item_in (items_view items.now))) }
 {
     if items.len() > MOST_ITEMS as usize {
-        return Err(refuse(alloc, place, Reason::TooMany));
+        return Err(at.refuse(alloc, Reason::TooMany));
     }
-    gather(alloc, items, place)
+    gather(alloc, items, at)
 }
 
 // No item stands before it.
-fn read_alone(alloc: Global, v: &Value, place: &Place) -> Result<Bundle, DocError>
+fn read_alone(alloc: Global, v: &Value, at: &Spot) -> Result<Bundle, DocError>
     ensures { Reads result
-        (item_faults (view v.now) place.now)
+        (item_faults (view v.now) at.now)
         (bundles.bundle_of (item_in (view v.now) ∷ [])) }
 {
-    let item = read_item(alloc, v, &Spot::of(place))?;
+    let item = read_item(alloc, v, at)?;
     let mut bundle = no_items(alloc)?;
     add(&mut bundle, item)?;
     Ok(bundle)

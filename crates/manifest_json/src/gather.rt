@@ -9,7 +9,7 @@ ghost use Rattle.manifest_json.specs.ItemForms.{after_item, item_in, next_faults
 use crate::items::{Item, read_next};
 use crate::mesh_config::SYSTEM_NAMESPACE;
 use crate::seen::Seen;
-use mesh_doc::{DocError, Place, Spot};
+use mesh_doc::{DocError, Spot};
 use mesh_policy::{Bundle, MeshConfig};
 use mesh_text::{List, Memory, Text};
 use serde_json::Value;
@@ -60,18 +60,18 @@ pub(crate) fn add(bundle: &mut Bundle, item: Item) -> Result<(), Memory>
     }
 }
 
-/// The bundle of the items of a list at `place`, or the first fault of one of them.
+/// The bundle of the items of a list at `at`, or the first fault of one of them.
 #[tactic(auto, using(crate::proofs::Bundles::one_by_one, crate::proofs::Bundles::and_nothing))]
-pub(crate) fn gather(alloc: Global, items: &[Value], place: &Place) -> Result<Bundle, DocError>
+pub(crate) fn gather(alloc: Global, items: &[Value], at: &Spot) -> Result<Bundle, DocError>
     requires { length items.now < 2 ^ 31 }
     ensures { Reads result
-        (each_in_turn next_faults after_item [] 0 (items_view items.now) place.now)
+        (each_in_turn next_faults after_item [] 0 (items_view items.now) at.now)
         (bundles.bundle_of (each_in item_in (items_view items.now))) }
 {
     let mut seen = Seen::new(alloc);
     let mut bundle = no_items(alloc)?;
     for (i, v) in items.iter().enumerate() {
-        let item = read_next(alloc, &mut seen, v, &Spot::index(place, i as u32))?;
+        let item = read_next(alloc, &mut seen, v, &Spot::index(&*at, i as u32))?;
         add(&mut bundle, item)?;
     }
     Ok(bundle)

@@ -10,7 +10,7 @@ use crate::pod::read_pod;
 use crate::policy_items::{read_authorization_item, read_peer_item, read_request_item};
 use crate::seen::Seen;
 use crate::service::read_service;
-use mesh_doc::{AnyText, DocError, Place, Reason, Spot, object, required};
+use mesh_doc::{AnyText, DocError, Reason, Spot, required};
 use mesh_policy::{
     AuthorizationPolicy, MeshConfig, PeerAuthentication, Pod, RequestAuthentication, Service,
 };
@@ -41,29 +41,28 @@ pub enum Item {
 pub(crate) fn read_item(alloc: Global, v: &Value, at: &Spot) -> Result<Item, DocError>
     ensures { Reads result (forms.item_faults (view v.now) at.now) (forms.item_in (view v.now)) }
 {
-    let place = at.place(alloc)?;
-    object(alloc, v, &place)?;
-    let version = required::<AnyText>(alloc, v, API_VERSION, &place)?;
-    let kind = required::<AnyText>(alloc, v, KIND, &place)?;
+    at.object(alloc, v)?;
+    let version = required::<AnyText>(alloc, v, API_VERSION, at)?;
+    let kind = required::<AnyText>(alloc, v, KIND, at)?;
     match kind_of(version.as_str(), kind.as_str()) {
-        Some(kind) => read_kind(alloc, kind, v, &place),
-        None => Err(Spot::key(&place, KIND).refuse(alloc, Reason::WrongKind)),
+        Some(kind) => read_kind(alloc, kind, v, at),
+        None => Err(Spot::key(at, KIND).refuse(alloc, Reason::WrongKind)),
     }
 }
 
 #[tactic(auto, unfolding(crate::specs::ItemForms::kind_faults, crate::specs::ItemForms::kind_value))]
-fn read_kind(alloc: Global, kind: Kind, v: &Value, place: &Place) -> Result<Item, DocError>
+fn read_kind(alloc: Global, kind: Kind, v: &Value, at: &Spot) -> Result<Item, DocError>
     ensures { Reads result
-        (forms.kind_faults kind (view v.now) place.now)
+        (forms.kind_faults kind (view v.now) at.now)
         (forms.kind_value kind (view v.now)) }
 {
     match kind {
-        Kind::Pod => Ok(Item::Pod(read_pod(alloc, v, place)?)),
-        Kind::Service => Ok(Item::Service(read_service(alloc, v, place)?)),
-        Kind::Authorization => Ok(Item::Authorization(read_authorization_item(alloc, v, place)?)),
-        Kind::Peer => Ok(Item::Peer(read_peer_item(alloc, v, place)?)),
-        Kind::Request => Ok(Item::Request(read_request_item(alloc, v, place)?)),
-        Kind::Mesh => Ok(Item::Mesh(read_mesh_item(alloc, v, place)?)),
+        Kind::Pod => Ok(Item::Pod(read_pod(alloc, v, at)?)),
+        Kind::Service => Ok(Item::Service(read_service(alloc, v, at)?)),
+        Kind::Authorization => Ok(Item::Authorization(read_authorization_item(alloc, v, at)?)),
+        Kind::Peer => Ok(Item::Peer(read_peer_item(alloc, v, at)?)),
+        Kind::Request => Ok(Item::Request(read_request_item(alloc, v, at)?)),
+        Kind::Mesh => Ok(Item::Mesh(read_mesh_item(alloc, v, at)?)),
         Kind::Other => Ok(Item::Other),
     }
 }

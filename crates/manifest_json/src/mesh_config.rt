@@ -11,11 +11,10 @@ use crate::pod::SPEC;
 use crate::ports::PortNumber;
 use crate::seen::Seen;
 use mesh_doc::{
-    AnyTruth, DocError, Form, InTurn, Place, Reason, Spot, below_key, field, listed_in_turn,
-    missing, only_fields, optional, refuse, required,
+    AnyTruth, DocError, Form, InTurn, Reason, Spot, field, listed_in_turn, optional, required,
 };
 use mesh_policy::{MeshConfig, Provider};
-use mesh_text::{List, Text, is_token};
+use mesh_text::{Text, is_token};
 use serde_json::{Map, Value};
 use std::alloc::Global;
 
@@ -44,22 +43,22 @@ const PORT: &str = "port";
 
 const FAIL_OPEN: &str = "failOpen";
 
-/// The settings that the `spec` at `place` of a MeshConfig means (Istio reference, Global Mesh Options), or its first
+/// The settings that the `spec` at `at` of a MeshConfig means (Istio reference, Global Mesh Options), or its first
 /// fault: WrongType, UnknownField, MissingField, BadName, BadPort, BadValue for a provider of two forms, DuplicateItem
 /// for a second provider of one name, and TooMany for more than 2,048 providers.
 #[tactic(auto, unfolding(crate::specs::MeshItems::mesh_config_faults, crate::specs::MeshItems::mesh_config_in))]
-pub fn read_mesh_config(alloc: Global, v: &Value, place: &Place) -> Result<MeshConfig, DocError>
-    ensures { Reads result (mesh_config_faults (view v.now) place.now) (mesh_config_in (view v.now)) }
+pub fn read_mesh_config(alloc: Global, v: &Value, at: &Spot) -> Result<MeshConfig, DocError>
+    ensures { Reads result (mesh_config_faults (view v.now) at.now) (mesh_config_in (view v.now)) }
 {
-    only_fields(alloc, v, MESH_FIELDS, place)?;
-    let root = optional::<Namespace>(alloc, v, ROOT_NAMESPACE, place)?;
+    at.only_fields(alloc, v, MESH_FIELDS)?;
+    let root = optional::<Namespace>(alloc, v, ROOT_NAMESPACE, at)?;
     let providers = listed_in_turn::<ProviderEntry>(
         alloc,
         Seen::new(alloc),
         v,
         EXTENSION_PROVIDERS,
         MOST_PROVIDERS,
-        place,
+        at,
     )?;
     let root = match root {
         Some(root) => root,
@@ -68,16 +67,12 @@ pub fn read_mesh_config(alloc: Global, v: &Value, place: &Place) -> Result<MeshC
     Ok(MeshConfig { root, providers })
 }
 
-/// The MeshConfig that the item at `place` means, or the first fault of its `spec`. Its metadata are not read.
+/// The MeshConfig that the item at `at` means, or the first fault of its `spec`. Its metadata are not read.
 #[tactic(auto, unfolding(crate::specs::MeshItems::mesh_item_faults, crate::specs::MeshItems::mesh_item_in))]
-pub(crate) fn read_mesh_item(
-    alloc: Global,
-    item: &Value,
-    place: &Place,
-) -> Result<MeshConfig, DocError>
-    ensures { Reads result (mesh_item_faults (view item.now) place.now) (mesh_item_in (view item.now)) }
+pub(crate) fn read_mesh_item(alloc: Global, item: &Value, at: &Spot) -> Result<MeshConfig, DocError>
+    ensures { Reads result (mesh_item_faults (view item.now) at.now) (mesh_item_in (view item.now)) }
 {
-    let below = below_key(alloc, place, SPEC)?;
+    let below = Spot::key(at, SPEC);
     match field(item, SPEC) {
         Some(spec) => read_mesh_config(alloc, spec, &below),
         None => read_mesh_config(alloc, &Value::Object(Map::new(alloc)), &below),
@@ -104,10 +99,9 @@ impl InTurn for ProviderEntry {
         v: &Value,
         at: &Spot,
     ) -> Result<Provider, DocError> {
-        let place = at.place(alloc)?;
-        only_fields(alloc, v, PROVIDER_FIELDS, &place)?;
-        let name = read_name(alloc, seen, v, &place)?;
-        let form = read_form(alloc, v, &place)?;
+        at.only_fields(alloc, v, PROVIDER_FIELDS)?;
+        let name = read_name(alloc, seen, v, at)?;
+        let form = read_form(alloc, v, at)?;
         Ok(Provider {
             name,
             service: form.service,
@@ -119,20 +113,15 @@ impl InTurn for ProviderEntry {
 }
 
 #[tactic(auto, unfolding(crate::specs::MeshItems::name_in_turn_faults, crate::specs::MeshItems::after_provider))]
-fn read_name(
-    alloc: Global,
-    seen: &mut Seen<Text>,
-    v: &Value,
-    place: &Place,
-) -> Result<Text, DocError>
+fn read_name(alloc: Global, seen: &mut Seen<Text>, v: &Value, at: &Spot) -> Result<Text, DocError>
     ensures reads { Reads result
-        (name_in_turn_faults seen.old (view v.now) place.now)
+        (name_in_turn_faults seen.old (view v.now) at.now)
         (required_in NAME.now text_in (view v.now)) }
     ensures seen { OnOk result (seen.new ≡ after_provider seen.old (view v.now)) }
 {
-    let name = required::<Token>(alloc, v, NAME, place)?;
+    let name = required::<Token>(alloc, v, NAME, at)?;
     if !seen.note(name.copy(alloc)?)? {
-        return Err(Spot::key(place, NAME).refuse(alloc, Reason::DuplicateItem));
+        return Err(Spot::key(at, NAME).refuse(alloc, Reason::DuplicateItem));
     }
     Ok(name)
 }
@@ -159,25 +148,25 @@ impl Form for Token {
 }
 
 #[tactic(auto, unfolding(crate::specs::MeshItems::forms_faults, crate::specs::MeshItems::form_in))]
-fn read_form(alloc: Global, v: &Value, place: &Place) -> Result<Authorizer, DocError>
-    ensures { Reads result (forms_faults (view v.now) place.now) (form_in (view v.now)) }
+fn read_form(alloc: Global, v: &Value, at: &Spot) -> Result<Authorizer, DocError>
+    ensures { Reads result (forms_faults (view v.now) at.now) (form_in (view v.now)) }
 {
     match (
         field(v, ENVOY_EXT_AUTHZ_HTTP),
         field(v, ENVOY_EXT_AUTHZ_GRPC),
     ) {
-        (None, None) => Err(missing(alloc, ENVOY_EXT_AUTHZ_HTTP, place)),
+        (None, None) => Err(at.missing(alloc, ENVOY_EXT_AUTHZ_HTTP)),
         (Some(http), None) => AuthorizerForm::read(
             alloc,
             http,
-            &Spot::key(place, ENVOY_EXT_AUTHZ_HTTP),
+            &Spot::key(at, ENVOY_EXT_AUTHZ_HTTP),
         ),
         (None, Some(grpc)) => AuthorizerForm::read(
             alloc,
             grpc,
-            &Spot::key(place, ENVOY_EXT_AUTHZ_GRPC),
+            &Spot::key(at, ENVOY_EXT_AUTHZ_GRPC),
         ),
-        (Some(_), Some(_)) => Err(refuse(alloc, place, Reason::BadValue)),
+        (Some(_), Some(_)) => Err(at.refuse(alloc, Reason::BadValue)),
     }
 }
 
@@ -200,11 +189,10 @@ impl Form for AuthorizerForm {
 
     #[tactic(auto, unfolding(crate::specs::MeshItems::authorizer_faults, crate::specs::MeshItems::authorizer_in))]
     fn read(alloc: Global, v: &Value, at: &Spot) -> Result<Authorizer, DocError> {
-        let place = at.place(alloc)?;
-        only_fields(alloc, v, AUTHORIZER_FIELDS, &place)?;
-        let service = required::<Name>(alloc, v, SERVICE, &place)?;
-        let port = required::<PortNumber>(alloc, v, PORT, &place)?;
-        let fail_open = optional::<AnyTruth>(alloc, v, FAIL_OPEN, &place)?;
+        at.only_fields(alloc, v, AUTHORIZER_FIELDS)?;
+        let service = required::<Name>(alloc, v, SERVICE, at)?;
+        let port = required::<PortNumber>(alloc, v, PORT, at)?;
+        let fail_open = optional::<AnyTruth>(alloc, v, FAIL_OPEN, at)?;
         Ok(Authorizer {
             service,
             port,

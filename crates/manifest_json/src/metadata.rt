@@ -3,13 +3,12 @@ ghost use Rattle.serde_json.specs.Data.{Data};
 ghost use Rattle.serde_json.specs.View.{view};
 ghost use Rattle.mesh_doc.specs.Faults.{Reads};
 ghost use Rattle.mesh_doc.specs.Kinds.{text_in};
-ghost use Rattle.policy_json.specs.Labels.{labels_faults, labels_in};
 ghost use Rattle.manifest_json.specs.Metadata.{annotations_faults, authorization_metadata_faults, dry_run_faults, is_timestamp, name_faults, names_faults, names_in, namespace_faults, peer_metadata_faults, peer_metadata_in, plain_metadata_faults, pod_metadata_faults, pod_metadata_in, time_faults};
 
-use mesh_doc::{DocError, Form, Place, Reason, Spot, object, optional, required};
+use mesh_doc::{DocError, Form, Reason, Spot, optional, required};
 use mesh_policy::Label;
 use mesh_text::{List, Text, is_dns_label, is_dns_subdomain, is_time};
-use policy_json::read_labels;
+use policy_json::Labels;
 use serde_json::Value;
 use std::alloc::Global;
 
@@ -99,13 +98,13 @@ impl Form for Namespace {
     }
 }
 
-/// The names in the object `metadata` at `place`, or the first of their faults: MissingField, WrongType, BadName.
+/// The names in the object `metadata` at `at`, or the first of their faults: MissingField, WrongType, BadName.
 #[tactic(auto, unfolding(crate::specs::Metadata::names_faults, crate::specs::Metadata::names_in))]
-pub fn read_names(alloc: Global, metadata: &Value, place: &Place) -> Result<Names, DocError>
-    ensures { Reads result (names_faults (view metadata.now) place.now) (names_in (view metadata.now)) }
+fn read_names(alloc: Global, metadata: &Value, at: &Spot) -> Result<Names, DocError>
+    ensures { Reads result (names_faults (view metadata.now) at.now) (names_in (view metadata.now)) }
 {
-    let name = required::<Name>(alloc, metadata, NAME, place)?;
-    let namespace = optional::<Namespace>(alloc, metadata, NAMESPACE, place)?;
+    let name = required::<Name>(alloc, metadata, NAME, at)?;
+    let namespace = optional::<Namespace>(alloc, metadata, NAMESPACE, at)?;
     let namespace = match namespace {
         Some(namespace) => namespace,
         None => Text::of(alloc, DEFAULT_NAMESPACE)?,
@@ -113,22 +112,7 @@ pub fn read_names(alloc: Global, metadata: &Value, place: &Place) -> Result<Name
     Ok(Names { name, namespace })
 }
 
-/// The metadata of a Service or a RequestAuthentication, at `place`. Faults: WrongType, and those of the names.
-#[tactic(auto, unfolding(crate::specs::Metadata::plain_metadata_faults))]
-pub fn read_plain_metadata(
-    alloc: Global,
-    metadata: &Value,
-    place: &Place,
-) -> Result<Names, DocError>
-    ensures { Reads result
-        (plain_metadata_faults (view metadata.now) place.now)
-        (names_in (view metadata.now)) }
-{
-    object(alloc, metadata, place)?;
-    read_names(alloc, metadata, place)
-}
-
-/// The form of `read_plain_metadata`, for the field of an item.
+/// The metadata of a Service or a RequestAuthentication. Faults: WrongType, and those of the names.
 pub(crate) struct PlainMeta;
 
 impl Form for PlainMeta {
@@ -138,46 +122,14 @@ impl Form for PlainMeta {
 
     ghost value = { names_in };
 
+    #[tactic(auto, unfolding(crate::specs::Metadata::plain_metadata_faults))]
     fn read(alloc: Global, v: &Value, at: &Spot) -> Result<Names, DocError> {
-        read_plain_metadata(alloc, v, &at.place(alloc)?)
+        at.object(alloc, v)?;
+        read_names(alloc, v, at)
     }
 }
 
-pub(crate) struct Labels;
-
-impl Form for Labels {
-    type Out = List<Label>;
-
-    ghost faults = { labels_faults };
-
-    ghost value = { labels_in };
-
-    fn read(alloc: Global, v: &Value, at: &Spot) -> Result<List<Label>, DocError> {
-        read_labels(alloc, v, &at.place(alloc)?)
-    }
-}
-
-/// The metadata of a Pod, at `place`. Faults: WrongType, and those of the names.
-#[tactic(auto, unfolding(crate::specs::Metadata::pod_metadata_faults, crate::specs::Metadata::pod_metadata_in))]
-pub fn read_pod_metadata(
-    alloc: Global,
-    metadata: &Value,
-    place: &Place,
-) -> Result<PodMetadata, DocError>
-    ensures { Reads result
-        (pod_metadata_faults (view metadata.now) place.now)
-        (pod_metadata_in (view metadata.now)) }
-{
-    object(alloc, metadata, place)?;
-    let names = read_names(alloc, metadata, place)?;
-    let labels = optional::<Labels>(alloc, metadata, LABELS, place)?;
-    Ok(PodMetadata {
-        names,
-        labels: labels.unwrap_or(List::new(alloc)),
-    })
-}
-
-/// The form of `read_pod_metadata`, for the field of an item.
+/// The metadata of a Pod. Faults: WrongType, and those of the names.
 pub(crate) struct PodMeta;
 
 impl Form for PodMeta {
@@ -187,8 +139,15 @@ impl Form for PodMeta {
 
     ghost value = { pod_metadata_in };
 
+    #[tactic(auto, unfolding(crate::specs::Metadata::pod_metadata_faults, crate::specs::Metadata::pod_metadata_in))]
     fn read(alloc: Global, v: &Value, at: &Spot) -> Result<PodMetadata, DocError> {
-        read_pod_metadata(alloc, v, &at.place(alloc)?)
+        at.object(alloc, v)?;
+        let names = read_names(alloc, v, at)?;
+        let labels = optional::<Labels>(alloc, v, LABELS, at)?;
+        Ok(PodMetadata {
+            names,
+            labels: labels.unwrap_or(List::new(alloc)),
+        })
     }
 }
 
@@ -220,24 +179,7 @@ impl Form for Time {
     }
 }
 
-/// The metadata of a PeerAuthentication, at `place`. Faults: WrongType, those of the names, and BadTime.
-#[tactic(auto, unfolding(crate::specs::Metadata::peer_metadata_faults, crate::specs::Metadata::peer_metadata_in))]
-pub fn read_peer_metadata(
-    alloc: Global,
-    metadata: &Value,
-    place: &Place,
-) -> Result<PeerMetadata, DocError>
-    ensures { Reads result
-        (peer_metadata_faults (view metadata.now) place.now)
-        (peer_metadata_in (view metadata.now)) }
-{
-    object(alloc, metadata, place)?;
-    let names = read_names(alloc, metadata, place)?;
-    let age = optional::<Time>(alloc, metadata, CREATION_TIMESTAMP, place)?;
-    Ok(PeerMetadata { names, age })
-}
-
-/// The form of `read_peer_metadata`, for the field of an item.
+/// The metadata of a PeerAuthentication. Faults: WrongType, those of the names, and BadTime.
 pub(crate) struct PeerMeta;
 
 impl Form for PeerMeta {
@@ -247,8 +189,12 @@ impl Form for PeerMeta {
 
     ghost value = { peer_metadata_in };
 
+    #[tactic(auto, unfolding(crate::specs::Metadata::peer_metadata_faults, crate::specs::Metadata::peer_metadata_in))]
     fn read(alloc: Global, v: &Value, at: &Spot) -> Result<PeerMetadata, DocError> {
-        read_peer_metadata(alloc, v, &at.place(alloc)?)
+        at.object(alloc, v)?;
+        let names = read_names(alloc, v, at)?;
+        let age = optional::<Time>(alloc, v, CREATION_TIMESTAMP, at)?;
+        Ok(PeerMetadata { names, age })
     }
 }
 
@@ -285,32 +231,14 @@ impl Form for Annotations {
 
     #[tactic(auto, unfolding(crate::specs::Metadata::annotations_faults))]
     fn read(alloc: Global, v: &Value, at: &Spot) -> Result<(), DocError> {
-        let place = at.place(alloc)?;
-        object(alloc, v, &place)?;
-        optional::<NoDryRun>(alloc, v, DRY_RUN, &place)?;
+        at.object(alloc, v)?;
+        optional::<NoDryRun>(alloc, v, DRY_RUN, at)?;
         Ok(())
     }
 }
 
-/// The metadata of an AuthorizationPolicy, at `place`. Faults: WrongType, those of the names, and DryRun at the
-/// annotation that makes the policy a dry run (Istio, "Dry Run").
-#[tactic(auto, unfolding(crate::specs::Metadata::authorization_metadata_faults))]
-pub fn read_authorization_metadata(
-    alloc: Global,
-    metadata: &Value,
-    place: &Place,
-) -> Result<Names, DocError>
-    ensures { Reads result
-        (authorization_metadata_faults (view metadata.now) place.now)
-        (names_in (view metadata.now)) }
-{
-    object(alloc, metadata, place)?;
-    let names = read_names(alloc, metadata, place)?;
-    optional::<Annotations>(alloc, metadata, ANNOTATIONS, place)?;
-    Ok(names)
-}
-
-/// The form of `read_authorization_metadata`, for the field of an item.
+/// The metadata of an AuthorizationPolicy. Faults: WrongType, those of the names, and DryRun at the annotation that
+/// makes the policy a dry run (Istio, "Dry Run").
 pub(crate) struct AuthorizationMeta;
 
 impl Form for AuthorizationMeta {
@@ -320,7 +248,11 @@ impl Form for AuthorizationMeta {
 
     ghost value = { names_in };
 
+    #[tactic(auto, unfolding(crate::specs::Metadata::authorization_metadata_faults))]
     fn read(alloc: Global, v: &Value, at: &Spot) -> Result<Names, DocError> {
-        read_authorization_metadata(alloc, v, &at.place(alloc)?)
+        at.object(alloc, v)?;
+        let names = read_names(alloc, v, at)?;
+        optional::<Annotations>(alloc, v, ANNOTATIONS, at)?;
+        Ok(names)
     }
 }

@@ -6,7 +6,7 @@ ghost use Rattle.manifest_json.specs.PodItems.{container_faults, container_in, i
 use crate::flat::{joined, kept};
 use crate::metadata::{METADATA, NAME, PodMeta};
 use crate::ports::{MOST_ENTRIES, PortNumber, has_other_protocol};
-use mesh_doc::{AnyText, DocError, Form, Place, Spot, field, listed, object, optional, required};
+use mesh_doc::{AnyText, DocError, Form, Spot, field, listed, optional, required};
 use mesh_policy::{NamedPort, Pod};
 use mesh_text::List;
 use serde_json::Value;
@@ -20,15 +20,15 @@ const CONTAINERS: &str = "containers";
 
 const CONTAINER_PORT: &str = "containerPort";
 
-/// The Pod that the item at `place` means (Kubernetes API reference, Pod v1), or its first fault: those of its
+/// The Pod that the item at `at` means (Kubernetes API reference, Pod v1), or its first fault: those of its
 /// metadata, and in its `spec` WrongType, MissingField, BadPort, and TooMany for a list of more than 2,048 entries.
 #[tactic(auto, unfolding(crate::specs::PodItems::pod_faults, crate::specs::PodItems::pod_in))]
-pub fn read_pod(alloc: Global, item: &Value, place: &Place) -> Result<Pod, DocError>
-    ensures { Reads result (pod_faults (view item.now) place.now) (pod_in (view item.now)) }
+pub fn read_pod(alloc: Global, item: &Value, at: &Spot) -> Result<Pod, DocError>
+    ensures { Reads result (pod_faults (view item.now) at.now) (pod_in (view item.now)) }
 {
-    object(alloc, item, place)?;
-    let metadata = required::<PodMeta>(alloc, item, METADATA, place)?;
-    let ports = optional::<PodSpec>(alloc, item, SPEC, place)?;
+    at.object(alloc, item)?;
+    let metadata = required::<PodMeta>(alloc, item, METADATA, at)?;
+    let ports = optional::<PodSpec>(alloc, item, SPEC, at)?;
     Ok(Pod {
         name: metadata.names.name,
         namespace: metadata.names.namespace,
@@ -48,9 +48,8 @@ impl Form for PodSpec {
 
     #[tactic(auto, unfolding(crate::specs::PodItems::pod_spec_faults, crate::specs::PodItems::pod_spec_in))]
     fn read(alloc: Global, v: &Value, at: &Spot) -> Result<List<NamedPort>, DocError> {
-        let place = at.place(alloc)?;
-        object(alloc, v, &place)?;
-        let containers = listed::<Container>(alloc, v, CONTAINERS, MOST_ENTRIES, &place)?;
+        at.object(alloc, v)?;
+        let containers = listed::<Container>(alloc, v, CONTAINERS, MOST_ENTRIES, at)?;
         Ok(joined(alloc, containers)?)
     }
 }
@@ -66,9 +65,8 @@ impl Form for Container {
 
     #[tactic(auto, unfolding(crate::specs::PodItems::container_faults, crate::specs::PodItems::container_in))]
     fn read(alloc: Global, v: &Value, at: &Spot) -> Result<List<NamedPort>, DocError> {
-        let place = at.place(alloc)?;
-        object(alloc, v, &place)?;
-        let ports = listed::<ContainerPort>(alloc, v, PORTS, MOST_ENTRIES, &place)?;
+        at.object(alloc, v)?;
+        let ports = listed::<ContainerPort>(alloc, v, PORTS, MOST_ENTRIES, at)?;
         Ok(kept(alloc, ports)?)
     }
 }
@@ -84,13 +82,12 @@ impl Form for ContainerPort {
 
     #[tactic(auto, unfolding(crate::specs::PodItems::named_port_faults, crate::specs::PodItems::named_port_in))]
     fn read(alloc: Global, v: &Value, at: &Spot) -> Result<Option<NamedPort>, DocError> {
-        let place = at.place(alloc)?;
-        object(alloc, v, &place)?;
+        at.object(alloc, v)?;
         if is_passed(v) {
             return Ok(None);
         }
-        let name = required::<AnyText>(alloc, v, NAME, &place)?;
-        let port = required::<PortNumber>(alloc, v, CONTAINER_PORT, &place)?;
+        let name = required::<AnyText>(alloc, v, NAME, at)?;
+        let port = required::<PortNumber>(alloc, v, CONTAINER_PORT, at)?;
         Ok(Some(NamedPort { name, port }))
     }
 }

@@ -4,27 +4,27 @@ ghost use Rattle.manifest_json.specs.PolicyItems.{authorization_item_faults, aut
 
 use crate::metadata::{AuthorizationMeta, METADATA, PeerMeta, PlainMeta};
 use crate::pod::SPEC;
-use mesh_doc::{DocError, Place, below_key, field, object, required};
+use mesh_doc::{DocError, Spot, field, required};
 use mesh_policy::{AuthorizationPolicy, PeerAuthentication, RequestAuthentication};
 use policy_json::{read_authorization, read_peer, read_request};
 use serde_json::Value;
 use std::alloc::Global;
 
-/// The AuthorizationPolicy that the item at `place` means, or its first fault: those of its metadata, and then those
+/// The AuthorizationPolicy that the item at `at` means, or its first fault: those of its metadata, and then those
 /// of its `spec`.
 #[tactic(auto, unfolding(crate::specs::PolicyItems::authorization_item_faults, crate::specs::PolicyItems::authorization_item_in))]
 pub(crate) fn read_authorization_item(
     alloc: Global,
     item: &Value,
-    place: &Place,
+    at: &Spot,
 ) -> Result<AuthorizationPolicy, DocError>
     ensures { Reads result
-        (authorization_item_faults (view item.now) place.now)
+        (authorization_item_faults (view item.now) at.now)
         (authorization_item_in (view item.now)) }
 {
-    object(alloc, item, place)?;
-    let names = required::<AuthorizationMeta>(alloc, item, METADATA, place)?;
-    let below = below_key(alloc, place, SPEC)?;
+    at.object(alloc, item)?;
+    let names = required::<AuthorizationMeta>(alloc, item, METADATA, at)?;
+    let below = Spot::key(at, SPEC).place(alloc)?;
     read_authorization(
         alloc,
         names.name,
@@ -34,21 +34,21 @@ pub(crate) fn read_authorization_item(
     )
 }
 
-/// The PeerAuthentication that the item at `place` means, or its first fault: those of its metadata, and then those
+/// The PeerAuthentication that the item at `at` means, or its first fault: those of its metadata, and then those
 /// of its `spec`.
 #[tactic(auto, unfolding(crate::specs::PolicyItems::peer_item_faults, crate::specs::PolicyItems::peer_item_in))]
 pub(crate) fn read_peer_item(
     alloc: Global,
     item: &Value,
-    place: &Place,
+    at: &Spot,
 ) -> Result<PeerAuthentication, DocError>
     ensures { Reads result
-        (peer_item_faults (view item.now) place.now)
+        (peer_item_faults (view item.now) at.now)
         (peer_item_in (view item.now)) }
 {
-    object(alloc, item, place)?;
-    let metadata = required::<PeerMeta>(alloc, item, METADATA, place)?;
-    let below = below_key(alloc, place, SPEC)?;
+    at.object(alloc, item)?;
+    let metadata = required::<PeerMeta>(alloc, item, METADATA, at)?;
+    let below = Spot::key(at, SPEC).place(alloc)?;
     read_peer(
         alloc,
         metadata.names.name,
@@ -59,21 +59,21 @@ pub(crate) fn read_peer_item(
     )
 }
 
-/// The RequestAuthentication that the item at `place` means, or its first fault: those of its metadata, and then
+/// The RequestAuthentication that the item at `at` means, or its first fault: those of its metadata, and then
 /// those of its `spec`.
 #[tactic(auto, unfolding(crate::specs::PolicyItems::request_item_faults, crate::specs::PolicyItems::request_item_in))]
 pub(crate) fn read_request_item(
     alloc: Global,
     item: &Value,
-    place: &Place,
+    at: &Spot,
 ) -> Result<RequestAuthentication, DocError>
     ensures { Reads result
-        (request_item_faults (view item.now) place.now)
+        (request_item_faults (view item.now) at.now)
         (request_item_in (view item.now)) }
 {
-    object(alloc, item, place)?;
-    let names = required::<PlainMeta>(alloc, item, METADATA, place)?;
-    let below = below_key(alloc, place, SPEC)?;
+    at.object(alloc, item)?;
+    let names = required::<PlainMeta>(alloc, item, METADATA, at)?;
+    let below = Spot::key(at, SPEC).place(alloc)?;
     read_request(
         alloc,
         names.name,

@@ -2,7 +2,7 @@
 use crate::metadata::{AuthorizationMeta, METADATA, PeerMeta, PlainMeta};
 use crate::pod::read_pod;
 use crate::service::read_service;
-use mesh_doc::{DocError, Place, place_text, required};
+use mesh_doc::{DocError, Place, Spot, place_text, required};
 use mesh_policy::{Label, Pod, Service, Target};
 use mesh_text::{List, Text};
 use serde_json::Value;
@@ -63,23 +63,25 @@ fn service_told(rt: &impl Abort, alloc: Global, service: &Service) -> String {
 
 // What an item of that kind says, of policies what their metadata say.
 fn read_item(rt: &impl Abort, alloc: Global, kind: &str, item: &Value) -> Result<String, DocError> {
-    let place: Place = List::new(alloc);
+    let whole: Place = List::new(alloc);
+    let spot = Spot::of(&whole);
+    let at = &spot;
     if kind == "Pod" {
-        return Ok(pod_told(rt, alloc, &read_pod(alloc, item, &place)?));
+        return Ok(pod_told(rt, alloc, &read_pod(alloc, item, at)?));
     }
     if kind == "Service" {
-        return Ok(service_told(rt, alloc, &read_service(alloc, item, &place)?));
+        return Ok(service_told(rt, alloc, &read_service(alloc, item, at)?));
     }
     let (names, age) = match kind {
         "PeerAuthentication" => {
-            let metadata = required::<PeerMeta>(alloc, item, METADATA, &place)?;
+            let metadata = required::<PeerMeta>(alloc, item, METADATA, at)?;
             (metadata.names, metadata.age)
         }
         "AuthorizationPolicy" => (
-            required::<AuthorizationMeta>(alloc, item, METADATA, &place)?,
+            required::<AuthorizationMeta>(alloc, item, METADATA, at)?,
             None,
         ),
-        _ => (required::<PlainMeta>(alloc, item, METADATA, &place)?, None),
+        _ => (required::<PlainMeta>(alloc, item, METADATA, at)?, None),
     };
     let (namespace, name) = (names.namespace.as_str(), names.name.as_str());
     Ok(format!(in alloc; "{namespace}/{name} {}", or_dash(&age)).expect(rt, "memory"))

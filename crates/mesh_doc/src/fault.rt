@@ -1,8 +1,7 @@
 ghost use Rattle.std.specs.Prelude.{◌≡◌};
 ghost use Rattle.mesh_doc.specs.Faults.{Refuses, fault};
 
-use crate::place::copy_of;
-use crate::{Place, Reason};
+use crate::{Place, Reason, Spot};
 use mesh_text::Memory;
 use std::alloc::Global;
 
@@ -30,12 +29,9 @@ impl From<Memory> for DocError {
     }
 }
 
-/// The fault `reason` at `place`, or want of memory for a copy of the place.
+/// As `Spot::refuse`, at `place`.
 pub fn refuse(alloc: Global, place: &Place, reason: Reason) -> DocError
     ensures { Refuses result (fault reason place.now) }
 {
-    match copy_of(alloc, place) {
-        Ok(place) => DocError::Fault(Fault { place, reason }),
-        Err(Memory) => DocError::Memory,
-    }
+    Spot::of(place).refuse(alloc, reason)
 }

@@ -27,9 +27,18 @@ pub fn field<'a>(v: &'a Value, name: &str) -> Option<&'a Value>
     }
 }
 
-/// MissingField at the field `name` of the object at `place`, or want of memory.
+/// As `Spot::missing`, at `place`.
 pub fn missing(alloc: Global, name: &str, place: &Place) -> DocError
     ensures { Refuses result (fault Reason.MissingField (at_key name.now place.now)) }
 {
-    Spot::key(place, name).refuse(alloc, Reason::MissingField)
+    Spot::of(place).missing(alloc, name)
+}
+
+impl<'a> Spot<'a> {
+    /// MissingField at the field `name` of the object here, or want of memory.
+    pub fn missing(&self, alloc: Global, name: &str) -> DocError
+        ensures { Refuses result (fault Reason.MissingField (at_key name.now self.now)) }
+    {
+        Spot::key(self, name).refuse(alloc, Reason::MissingField)
+    }
 }

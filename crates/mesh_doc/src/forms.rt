@@ -5,7 +5,7 @@ ghost use Rattle.mesh_doc.specs.Fields as fields;
 ghost use Rattle.mesh_doc.specs.Kinds.{text_faults, text_in, number_faults, number_in, truth_faults, truth_in};
 ghost use Rattle.serde_json.specs.Data.{Data};
 
-use crate::{DocError, Place, Reason, Spot, field, missing, written};
+use crate::{DocError, Reason, Spot, field, written};
 use mesh_text::Text;
 use serde_json::Value;
 use std::alloc::Global;
@@ -24,38 +24,38 @@ pub trait Form {
         ensures { Reads result (faults (view v.now) at.now) (value (view v.now)) };
 }
 
-/// The field `name` of the object `v` at `place`, which has to be there: else MissingField at it.
+/// The field `name` of the object `v` at `at`, which has to be there: else MissingField at it.
 #[tactic(auto, unfolding(crate::specs::Fields::required, crate::specs::Fields::required_in))]
 pub fn required<F: Form>(
     alloc: Global,
     v: &Value,
     name: &str,
-    place: &Place,
+    at: &Spot,
 ) -> Result<F::Out, DocError>
     ensures { Reads result
-        (fields.required name.now F.faults (view v.now) place.now)
+        (fields.required name.now F.faults (view v.now) at.now)
         (fields.required_in name.now F.value (view v.now)) }
 {
     match field(v, name) {
-        Some(found) => F::read(alloc, found, &Spot::key(place, name)),
-        None => Err(missing(alloc, name, place)),
+        Some(found) => F::read(alloc, found, &Spot::key(at, name)),
+        None => Err(at.missing(alloc, name)),
     }
 }
 
-/// The field `name` of the object `v` at `place`, or None where it is not there.
+/// The field `name` of the object `v` at `at`, or None where it is not there.
 #[tactic(auto, unfolding(crate::specs::Fields::optional, crate::specs::Fields::optional_in))]
 pub fn optional<F: Form>(
     alloc: Global,
     v: &Value,
     name: &str,
-    place: &Place,
+    at: &Spot,
 ) -> Result<Option<F::Out>, DocError>
     ensures { Reads result
-        (fields.optional name.now F.faults (view v.now) place.now)
+        (fields.optional name.now F.faults (view v.now) at.now)
         (fields.optional_in name.now F.value (view v.now)) }
 {
     match field(v, name) {
-        Some(found) => Ok(Some(F::read(alloc, found, &Spot::key(place, name))?)),
+        Some(found) => Ok(Some(F::read(alloc, found, &Spot::key(at, name))?)),
         None => Ok(None),
     }
 }
@@ -66,15 +66,15 @@ pub fn required_written<F: Form>(
     alloc: Global,
     v: &Value,
     name: &str,
-    place: &Place,
+    at: &Spot,
 ) -> Result<F::Out, DocError>
     ensures { Reads result
-        (fields.required_written name.now F.faults (view v.now) place.now)
+        (fields.required_written name.now F.faults (view v.now) at.now)
         (fields.required_written_in name.now F.value (view v.now)) }
 {
     match written(v, name) {
-        Some(found) => F::read(alloc, found, &Spot::key(place, name)),
-        None => Err(missing(alloc, name, place)),
+        Some(found) => F::read(alloc, found, &Spot::key(at, name)),
+        None => Err(at.missing(alloc, name)),
     }
 }
 
@@ -84,14 +84,14 @@ pub fn optional_written<F: Form>(
     alloc: Global,
     v: &Value,
     name: &str,
-    place: &Place,
+    at: &Spot,
 ) -> Result<Option<F::Out>, DocError>
     ensures { Reads result
-        (fields.optional_written name.now F.faults (view v.now) place.now)
+        (fields.optional_written name.now F.faults (view v.now) at.now)
         (fields.optional_written_in name.now F.value (view v.now)) }
 {
     match written(v, name) {
-        Some(found) => Ok(Some(F::read(alloc, found, &Spot::key(place, name))?)),
+        Some(found) => Ok(Some(F::read(alloc, found, &Spot::key(at, name))?)),
         None => Ok(None),
     }
 }

@@ -9,15 +9,25 @@ use mesh_text::Text;
 use serde_json::Value;
 use std::alloc::Global;
 
-/// Whether `v` is an object: else WrongType.
-#[tactic(auto, unfolding(crate::specs::Kinds::object_faults))]
+/// As `Spot::object`, at `place`.
 pub fn object(alloc: Global, v: &Value, place: &Place) -> Result<(), DocError>
     ensures reads { Reads result (object_faults (view v.now) place.now) tt }
     ensures object { OnOk result (is_object (view v.now) ≡ true) }
 {
-    match v {
-        Value::Object(_) => Ok(()),
-        _ => Err(refuse(alloc, place, Reason::WrongType)),
+    Spot::of(place).object(alloc, v)
+}
+
+impl<'a> Spot<'a> {
+    /// Whether `v`, which stands here, is an object: else WrongType.
+    #[tactic(auto, unfolding(crate::specs::Kinds::object_faults))]
+    pub fn object(&self, alloc: Global, v: &Value) -> Result<(), DocError>
+        ensures reads { Reads result (object_faults (view v.now) self.now) tt }
+        ensures object { OnOk result (is_object (view v.now) ≡ true) }
+    {
+        match v {
+            Value::Object(_) => Ok(()),
+            _ => Err(self.refuse(alloc, Reason::WrongType)),
+        }
     }
 }
 

@@ -29,7 +29,7 @@ pub use known::only_fields;
 pub use laws::reading_order;
 pub use lists::{entries, listed, listed_written};
 pub use maps::{Entry, members};
-pub use place::{Place, Step, below_index, below_key};
+pub use place::{Place, Step};
 pub use printed::place_text;
 pub use reason::Reason;
 pub use spot::Spot;

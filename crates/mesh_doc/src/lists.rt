@@ -3,31 +3,31 @@ ghost use Rattle.serde_json.specs.View.{view, items_view};
 ghost use Rattle.mesh_doc.specs.Faults.{Reads};
 ghost use Rattle.mesh_doc.specs.Lists as lists;
 
-use crate::{DocError, Form, Place, Reason, Spot, below_key, field, refuse, written};
+use crate::{DocError, Form, Reason, Spot, field, written};
 use mesh_text::List;
 use serde_json::Value;
 use std::alloc::Global;
 
-/// The entries of the list `v` at `place`. WrongType where it is no list, TooMany where it has more than `most`
+/// The entries of the list `v` at `at`. WrongType where it is no list, TooMany where it has more than `most`
 /// entries, and else the first fault of its entries.
 #[tactic(auto, unfolding(crate::specs::Lists::list_of, crate::specs::Lists::list_in, crate::specs::Kinds::list_faults))]
 pub fn entries<F: Form>(
     alloc: Global,
     v: &Value,
     most: u32,
-    place: &Place,
+    at: &Spot,
 ) -> Result<List<F::Out>, DocError>
     ensures { Reads result
-        (lists.list_of most F.faults (view v.now) place.now)
+        (lists.list_of most F.faults (view v.now) at.now)
         (lists.list_in F.value (view v.now)) }
 {
     match v {
-        Value::Array(items) => short_list::<F>(alloc, items.as_slice(), most, place),
-        _ => Err(refuse(alloc, place, Reason::WrongType)),
+        Value::Array(items) => short_list::<F>(alloc, items.as_slice(), most, at),
+        _ => Err(at.refuse(alloc, Reason::WrongType)),
     }
 }
 
-/// The entries of the list in the field `name` of the object `v` at `place`, as by `entries`. A field that is not
+/// The entries of the list in the field `name` of the object `v` at `at`, as by `entries`. A field that is not
 /// there is as an empty list.
 #[tactic(auto, unfolding(crate::specs::Lists::listed, crate::specs::Lists::listed_in, crate::specs::Fields::optional))]
 pub fn listed<F: Form>(
@@ -35,14 +35,14 @@ pub fn listed<F: Form>(
     v: &Value,
     name: &str,
     most: u32,
-    place: &Place,
+    at: &Spot,
 ) -> Result<List<F::Out>, DocError>
     ensures { Reads result
-        (lists.listed name.now most F.faults (view v.now) place.now)
+        (lists.listed name.now most F.faults (view v.now) at.now)
         (lists.listed_in name.now F.value (view v.now)) }
 {
     match field(v, name) {
-        Some(found) => entries::<F>(alloc, found, most, &below_key(alloc, place, name)?),
+        Some(found) => entries::<F>(alloc, found, most, &Spot::key(at, name)),
         None => Ok(List::new(alloc)),
     }
 }
@@ -54,14 +54,14 @@ pub fn listed_written<F: Form>(
     v: &Value,
     name: &str,
     most: u32,
-    place: &Place,
+    at: &Spot,
 ) -> Result<List<F::Out>, DocError>
     ensures { Reads result
-        (lists.listed_written name.now most F.faults (view v.now) place.now)
+        (lists.listed_written name.now most F.faults (view v.now) at.now)
         (lists.listed_written_in name.now F.value (view v.now)) }
 {
     match written(v, name) {
-        Some(found) => entries::<F>(alloc, found, most, &below_key(alloc, place, name)?),
+        Some(found) => entries::<F>(alloc, found, most, &Spot::key(at, name)),
         None => Ok(List::new(alloc)),
     }
 }
@@ -71,27 +71,27 @@ fn short_list<F: Form>(
     alloc: Global,
     items: &[Value],
     most: u32,
-    place: &Place,
+    at: &Spot,
 ) -> Result<List<F::Out>, DocError>
     ensures { Reads result
-        (lists.entries_faults most F.faults (items_view items.now) place.now)
+        (lists.entries_faults most F.faults (items_view items.now) at.now)
         (lists.each_in F.value (items_view items.now)) }
 {
     if items.len() > most as usize {
-        return Err(refuse(alloc, place, Reason::TooMany));
+        return Err(at.refuse(alloc, Reason::TooMany));
     }
-    each::<F>(alloc, items, place)
+    each::<F>(alloc, items, at)
 }
 
-fn each<F: Form>(alloc: Global, items: &[Value], place: &Place) -> Result<List<F::Out>, DocError>
+fn each<F: Form>(alloc: Global, items: &[Value], at: &Spot) -> Result<List<F::Out>, DocError>
     requires { length items.now < 2 ^ 32 }
     ensures { Reads result
-        (lists.each_faults F.faults 0 (items_view items.now) place.now)
+        (lists.each_faults F.faults 0 (items_view items.now) at.now)
         (lists.each_in F.value (items_view items.now)) }
 {
     let mut all = List::new(alloc);
     for (i, v) in items.iter().enumerate() {
-        all.push(F::read(alloc, v, &Spot::index(place, i as u32))?)?;
+        all.push(F::read(alloc, v, &Spot::index(at, i as u32))?)?;
     }
     Ok(all)
 }

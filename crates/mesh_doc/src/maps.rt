@@ -4,7 +4,7 @@ ghost use Rattle.serde_json.specs.View.{view, members_view};
 ghost use Rattle.mesh_doc.specs.Faults.{Check, Reads};
 ghost use Rattle.mesh_doc.specs.Lists as lists;
 
-use crate::{DocError, Place, Reason, Spot, refuse};
+use crate::{DocError, Reason, Spot};
 use mesh_text::List as Items;
 use serde_json::{Map, Value};
 use std::alloc::Global;
@@ -22,32 +22,32 @@ pub trait Entry {
         ensures { Reads result (faults key.now (view v.now) at.now) (value key.now (view v.now)) };
 }
 
-/// The members of the object `v` at `place`, in byte order of their keys. WrongType where it is no object, and else
+/// The members of the object `v` at `at`, in byte order of their keys. WrongType where it is no object, and else
 /// the first fault of its members.
 #[tactic(auto, unfolding(crate::specs::Lists::map_of, crate::specs::Lists::map_in, crate::specs::Kinds::object_faults))]
-pub fn members<E: Entry>(alloc: Global, v: &Value, place: &Place) -> Result<Items<E::Out>, DocError>
+pub fn members<E: Entry>(alloc: Global, v: &Value, at: &Spot) -> Result<Items<E::Out>, DocError>
     ensures { Reads result
-        (lists.map_of E.faults (view v.now) place.now)
+        (lists.map_of E.faults (view v.now) at.now)
         (lists.map_in E.value (view v.now)) }
 {
     match v {
-        Value::Object(fields) => each_member::<E>(alloc, fields, place),
-        _ => Err(refuse(alloc, place, Reason::WrongType)),
+        Value::Object(fields) => each_member::<E>(alloc, fields, at),
+        _ => Err(at.refuse(alloc, Reason::WrongType)),
     }
 }
 
 fn each_member<E: Entry>(
     alloc: Global,
     fields: &Map<String, Value>,
-    place: &Place,
+    at: &Spot,
 ) -> Result<Items<E::Out>, DocError>
     ensures { Reads result
-        (lists.each_member_faults E.faults (members_view fields.now.entries) place.now)
+        (lists.each_member_faults E.faults (members_view fields.now.entries) at.now)
         (lists.each_member_in E.value (members_view fields.now.entries)) }
 {
     let mut all = Items::new(alloc);
     for (key, v) in fields.iter() {
-        all.push(E::read(alloc, key.as_str(), v, &Spot::key(place, key.as_str()))?)?;
+        all.push(E::read(alloc, key.as_str(), v, &Spot::key(at, key.as_str()))?)?;
     }
     Ok(all)
 }

@@ -1,5 +1,4 @@
-ghost use Rattle.std.specs.Prelude.{◌≡◌, IfOk};
-ghost use Rattle.mesh_doc.specs.Places.{at_key, at_index};
+ghost use Rattle.std.specs.Prelude.{◌≡◌, [], ◌∷◌, ◌++◌, IfOk};
 
 use mesh_text::{List, Memory, Text};
 use std::alloc::Global;
@@ -26,22 +25,13 @@ impl Step {
     }
 }
 
-/// The place of the field `name` of the object at `place`.
-pub fn below_key(alloc: Global, place: &Place, name: &str) -> Result<Place, Memory>
-    ensures { IfOk result (λ p. p ≡ at_key name.now place.now) }
+/// The place one step further down.
+pub(crate) fn below(place: Place, step: Step) -> Result<Place, Memory>
+    ensures { IfOk result (λ p. p ≡ place ++ step ∷ []) }
 {
-    let mut below = copy_of(alloc, place)?;
-    below.push(Step::Key(Text::of(alloc, name)?))?;
-    Ok(below)
-}
-
-/// The place of the entry `index` of the list at `place`.
-pub fn below_index(alloc: Global, place: &Place, index: u32) -> Result<Place, Memory>
-    ensures { IfOk result (λ p. p ≡ at_index index place.now) }
-{
-    let mut below = copy_of(alloc, place)?;
-    below.push(Step::Index(index))?;
-    Ok(below)
+    let mut place = place;
+    place.push(step)?;
+    Ok(place)
 }
 
 // It has room for one step more.

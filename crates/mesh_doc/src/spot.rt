@@ -2,34 +2,43 @@ ghost use Rattle.std.specs.Prelude.{◌≡◌, IfOk};
 ghost use Rattle.mesh_doc.specs.Places.{at_key, at_index};
 ghost use Rattle.mesh_doc.specs.Faults.{Refuses, fault};
 
-use crate::place::{below_index, below_key, copy_of};
+use crate::place::{Step, below, copy_of};
 use crate::{DocError, Fault, Place, Reason};
-use mesh_text::Memory;
+use mesh_text::{Memory, Text};
 use std::alloc::Global;
 use std::marker::Model;
 
-/// Where a value stands: at a place, or one step below it. Contracts see the steps of the value's own place. It is
-/// made without memory; only a fault, and an object that is entered, pay for the place itself.
+/// Where a value stands, told step by step from the object or list around it. Contracts see the steps of the value's
+/// place. It is made without memory; only a fault pays for the place itself.
+#[cycle(spot)]
 #[derive(Drop)]
 pub struct Spot<'a> {
-    above: &'a Place,
-    last: Last<'a>,
+    step: Last<'a>,
 }
 
+#[cycle(spot)]
 #[derive(Drop)]
 enum Last<'a> {
-    Nothing,
-    Name(&'a str),
-    Entry(u32),
+    Whole(&'a Place),
+    Name(&'a Spot<'a>, &'a str),
+    Entry(&'a Spot<'a>, u32),
 }
 
 impl<'a> Model for Spot<'a> {
+    ghost use Rattle.std.specs.Prelude.{length};
     ghost use Rattle.mesh_doc.specs.Places.{Steps};
-    ghost use Rattle.mesh_doc.specs.Spots.{steps};
 
     ghost Value = { Steps };
 
-    ghost view = { λ s. steps s.above.now s.last };
+    ghost use Rattle.mesh_doc.specs.Spots.{steps};
+
+    ghost view = { λ s. steps s.step };
+
+    ghost size = { length };
+
+    ghost use Rattle.std.proofs.Common.{arith, length-append};
+
+    ghost size_decreases = { λ a h. Prim.grind (arith, length-append) };
 }
 
 impl<'a> Spot<'a> {
@@ -37,38 +46,35 @@ impl<'a> Spot<'a> {
         ensures { result ≡ place.now }
     {
         Spot {
-            above: place,
-            last: Last::Nothing,
+            step: Last::Whole(place),
         }
     }
 
-    /// The field `name` of the object at `place`.
-    pub fn key(place: &'a Place, name: &'a str) -> Spot<'a>
-        ensures { result ≡ at_key name.now place.now }
+    /// The field `name` of the object at `at`.
+    pub fn key(at: &'a Spot<'a>, name: &'a str) -> Spot<'a>
+        ensures { result ≡ at_key name.now at.now }
     {
         Spot {
-            above: place,
-            last: Last::Name(name),
+            step: Last::Name(at, name),
         }
     }
 
-    /// The entry `index` of the list at `place`.
-    pub fn index(place: &'a Place, index: u32) -> Spot<'a>
-        ensures { result ≡ at_index index place.now }
+    /// The entry `index` of the list at `at`.
+    pub fn index(at: &'a Spot<'a>, index: u32) -> Spot<'a>
+        ensures { result ≡ at_index index at.now }
     {
         Spot {
-            above: place,
-            last: Last::Entry(index),
+            step: Last::Entry(at, index),
         }
     }
 
     pub fn place(&self, alloc: Global) -> Result<Place, Memory>
         ensures { IfOk result (λ p. p ≡ self.now) }
     {
-        match self.last {
-            Last::Nothing => copy_of(alloc, self.above),
-            Last::Name(name) => below_key(alloc, self.above, name),
-            Last::Entry(index) => below_index(alloc, self.above, index),
+        match &self.step {
+            Last::Whole(place) => copy_of(alloc, place),
+            Last::Name(at, name) => below(at.place(alloc)?, Step::Key(Text::of(alloc, name)?)),
+            Last::Entry(at, index) => below(at.place(alloc)?, Step::Index(*index)),
         }
     }
 

@@ -9,12 +9,12 @@ use std::process::Abort;
 
 // A strict object with an optional text `name`, a required number `x`, a list `on` of at most 2 truth values, and an
 // object `more` of numbers.
-fn read_point(alloc: Global, v: &Value, place: &Place) -> Result<(), DocError> {
-    only_fields(alloc, v, "more name on x", place)?;
-    let _name = optional::<AnyText>(alloc, v, "name", place)?;
-    let _x = required::<AnyNumber>(alloc, v, "x", place)?;
-    let _on = listed::<AnyTruth>(alloc, v, "on", 2, place)?;
-    let _more = optional::<Numbers>(alloc, v, "more", place)?;
+fn read_point(alloc: Global, v: &Value, at: &Spot) -> Result<(), DocError> {
+    at.only_fields(alloc, v, "more name on x")?;
+    let _name = optional::<AnyText>(alloc, v, "name", at)?;
+    let _x = required::<AnyNumber>(alloc, v, "x", at)?;
+    let _on = listed::<AnyTruth>(alloc, v, "on", 2, at)?;
+    let _more = optional::<Numbers>(alloc, v, "more", at)?;
     Ok(())
 }
 
@@ -31,7 +31,7 @@ impl Form for Numbers {
     ghost value = { map_in (λ _. number_in) };
 
     fn read(alloc: Global, v: &Value, at: &Spot) -> Result<List<u64>, DocError> {
-        members::<NumberEntry>(alloc, v, &at.place(alloc)?)
+        members::<NumberEntry>(alloc, v, at)
     }
 }
 
@@ -100,8 +100,9 @@ fn told<T: Drop>(rt: &impl Abort, alloc: Global, outcome: Result<T, DocError>) -
 #[test]
 fn the_first_fault_is_told(rt: HostRuntime) {
     let whole: Place = List::new(rt.alloc());
-    let spec = below_key(rt.alloc(), &whole, "spec").expect(&rt, "memory");
-    let third = below_index(rt.alloc(), &spec, 2).expect(&rt, "memory");
+    let whole = Spot::of(&whole);
+    let spec = Spot::key(&whole, "spec");
+    let third = Spot::index(&spec, 2);
     for (text, want) in [
         (r#"{"x":1}"#, "ok"),
         (r#"{"x":18446744073709551615}"#, "ok"),
@@ -175,6 +176,8 @@ fn fields_are_found(rt: &impl Abort, v: &Value) {
 
 fn kinds_are_read(rt: &impl Abort, alloc: Global, v: &Value, whole: &Place) {
     assert!(rt; object(alloc, v, whole).is_ok());
+    assert!(rt; only_fields(alloc, v, "a l n t z", whole).is_ok());
+    assert!(rt; only_fields(alloc, v, "a l n z", whole).is_err());
     assert_eq!(rt;
         text(alloc, part(rt, v, "a"), whole)
             .expect(rt, "a text")
@@ -195,7 +198,7 @@ fn kinds_are_read(rt: &impl Abort, alloc: Global, v: &Value, whole: &Place) {
     );
 }
 
-fn entries_are_read(rt: &impl Abort, alloc: Global, v: &Value, whole: &Place) {
+fn entries_are_read(rt: &impl Abort, alloc: Global, v: &Value, whole: &Spot) {
     let numbers = entries::<AnyNumber>(alloc, part(rt, v, "l"), 3, whole).expect(rt, "numbers");
     assert_eq!(rt; numbers.as_slice(), [1, 2, 3].as_slice());
     let numbers = entries_in_turn::<Distinct>(
@@ -208,7 +211,7 @@ fn entries_are_read(rt: &impl Abort, alloc: Global, v: &Value, whole: &Place) {
     assert_eq!(rt; numbers.as_slice(), [1, 2, 3].as_slice());
 }
 
-fn null_is_a_value(rt: &impl Abort, alloc: Global, v: &Value, whole: &Place) {
+fn null_is_a_value(rt: &impl Abort, alloc: Global, v: &Value, whole: &Spot) {
     let outcome = told(
         rt,
         alloc,
@@ -224,7 +227,7 @@ fn null_is_a_value(rt: &impl Abort, alloc: Global, v: &Value, whole: &Place) {
 fn faults_are_made(rt: &impl Abort, alloc: Global, whole: &Place) {
     let here: Result<(), DocError> = Err(refuse(alloc, whole, Reason::BadPort));
     assert_eq!(rt; told(rt, alloc, here).as_str(), "$: BadPort");
-    let there: Result<(), DocError> = Err(Spot::index(whole, 7).refuse(alloc, Reason::BadTime));
+    let there: Result<(), DocError> = Err(Spot::index(&Spot::of(whole), 7).refuse(alloc, Reason::BadTime));
     assert_eq!(rt; told(rt, alloc, there).as_str(), "$/7: BadTime");
     let gone: Result<(), DocError> = Err(missing(alloc, "k", whole));
     assert_eq!(rt; told(rt, alloc, gone).as_str(), "$/k: MissingField");
@@ -239,8 +242,8 @@ fn each_call_answers_what_it_read(rt: HostRuntime) {
     );
     fields_are_found(&rt, &v);
     kinds_are_read(&rt, alloc, &v, &whole);
-    entries_are_read(&rt, alloc, &v, &whole);
-    null_is_a_value(&rt, alloc, &v, &whole);
+    entries_are_read(&rt, alloc, &v, &Spot::of(&whole));
+    null_is_a_value(&rt, alloc, &v, &Spot::of(&whole));
     faults_are_made(&rt, alloc, &whole);
     reading_order();
 }
@@ -263,7 +266,14 @@ fn earlier_entries_count(rt: HostRuntime) {
         let outcome = told(
             &rt,
             rt.alloc(),
-            listed_in_turn::<Distinct>(rt.alloc(), List::new(rt.alloc()), &v, "l", 4, &whole),
+            listed_in_turn::<Distinct>(
+                rt.alloc(),
+                List::new(rt.alloc()),
+                &v,
+                "l",
+                4,
+                &Spot::of(&whole),
+            ),
         );
         assert_eq!(rt; outcome.as_str(), want, "{text}");
     }

@@ -5,7 +5,7 @@ ghost use Rattle.mesh_doc.specs.Faults.{Check, Reads};
 ghost use Rattle.mesh_doc.specs.Lists as lists;
 ghost use Rattle.mesh_doc.specs.Turns as turns;
 
-use crate::{DocError, Place, Reason, Spot, below_key, field, refuse};
+use crate::{DocError, Reason, Spot, field};
 use mesh_text::List as Entries;
 use serde_json::Value;
 use std::alloc::Global;
@@ -34,7 +34,7 @@ pub trait InTurn {
         ensures seen { OnOk result (seen.new ≡ after seen.old (view v.now)) };
 }
 
-/// The entries of the list in the field `name` of the object `v` at `place`, as by `listed`, each read behind what
+/// The entries of the list in the field `name` of the object `v` at `at`, as by `listed`, each read behind what
 /// `seen` and the entries before it have.
 #[tactic(auto, unfolding(crate::specs::Turns::listed_in_turn, crate::specs::Lists::listed_in, crate::specs::Fields::optional))]
 pub fn listed_in_turn<F: InTurn>(
@@ -43,21 +43,19 @@ pub fn listed_in_turn<F: InTurn>(
     v: &Value,
     name: &str,
     most: u32,
-    place: &Place,
+    at: &Spot,
 ) -> Result<Entries<F::Out>, DocError>
     ensures { Reads result
-        (turns.listed_in_turn name.now most F.faults F.after seen (view v.now) place.now)
+        (turns.listed_in_turn name.now most F.faults F.after seen (view v.now) at.now)
         (lists.listed_in name.now F.value (view v.now)) }
 {
     match field(v, name) {
-        Some(found) => {
-            entries_in_turn::<F>(alloc, seen, found, most, &below_key(alloc, place, name)?)
-        }
+        Some(found) => { entries_in_turn::<F>(alloc, seen, found, most, &Spot::key(at, name)) }
         None => Ok(Entries::new(alloc)),
     }
 }
 
-/// The entries of the list `v` at `place`, as by `entries`, each read behind what `seen` and the entries before it
+/// The entries of the list `v` at `at`, as by `entries`, each read behind what `seen` and the entries before it
 /// have.
 #[tactic(auto, unfolding(crate::specs::Turns::list_in_turn, crate::specs::Lists::list_in, crate::specs::Kinds::list_faults))]
 pub fn entries_in_turn<F: InTurn>(
@@ -65,15 +63,15 @@ pub fn entries_in_turn<F: InTurn>(
     seen: F::Seen,
     v: &Value,
     most: u32,
-    place: &Place,
+    at: &Spot,
 ) -> Result<Entries<F::Out>, DocError>
     ensures { Reads result
-        (turns.list_in_turn most F.faults F.after seen (view v.now) place.now)
+        (turns.list_in_turn most F.faults F.after seen (view v.now) at.now)
         (lists.list_in F.value (view v.now)) }
 {
     match v {
-        Value::Array(items) => short_list::<F>(alloc, seen, items.as_slice(), most, place),
-        _ => Err(refuse(alloc, place, Reason::WrongType)),
+        Value::Array(items) => short_list::<F>(alloc, seen, items.as_slice(), most, at),
+        _ => Err(at.refuse(alloc, Reason::WrongType)),
     }
 }
 
@@ -83,33 +81,33 @@ fn short_list<F: InTurn>(
     seen: F::Seen,
     items: &[Value],
     most: u32,
-    place: &Place,
+    at: &Spot,
 ) -> Result<Entries<F::Out>, DocError>
     ensures { Reads result
-        (turns.entries_in_turn most F.faults F.after seen (items_view items.now) place.now)
+        (turns.entries_in_turn most F.faults F.after seen (items_view items.now) at.now)
         (lists.each_in F.value (items_view items.now)) }
 {
     if items.len() > most as usize {
-        return Err(refuse(alloc, place, Reason::TooMany));
+        return Err(at.refuse(alloc, Reason::TooMany));
     }
-    each::<F>(alloc, seen, items, place)
+    each::<F>(alloc, seen, items, at)
 }
 
 fn each<F: InTurn>(
     alloc: Global,
     seen: F::Seen,
     items: &[Value],
-    place: &Place,
+    at: &Spot,
 ) -> Result<Entries<F::Out>, DocError>
     requires { length items.now < 2 ^ 32 }
     ensures { Reads result
-        (turns.each_in_turn F.faults F.after seen 0 (items_view items.now) place.now)
+        (turns.each_in_turn F.faults F.after seen 0 (items_view items.now) at.now)
         (lists.each_in F.value (items_view items.now)) }
 {
     let mut seen = seen;
     let mut all = Entries::new(alloc);
     for (i, v) in items.iter().enumerate() {
-        all.push(F::read(alloc, &mut seen, v, &Spot::index(place, i as u32))?)?;
+        all.push(F::read(alloc, &mut seen, v, &Spot::index(at, i as u32))?)?;
     }
     Ok(all)
 }

@@ -9,9 +9,7 @@ use crate::labels::{SELECTOR, Selector};
 use crate::limits::MOST;
 use crate::rules::RuleEntry;
 use crate::target_refs::no_targets;
-use mesh_doc::{
-    DocError, Form, Place, Reason, Spot, listed, only_fields, optional, refuse, required,
-};
+use mesh_doc::{DocError, Form, Place, Reason, Spot, listed, optional, required};
 use mesh_policy::{Action, AuthorizationPolicy};
 use mesh_text::{List, Text, is_token};
 use serde_json::{Map, Value};
@@ -51,13 +49,13 @@ pub fn read_authorization(
         (authorization_in name namespace (spec_of (option_map (λ v. view v.now) spec.entry))) }
 {
     match spec {
-        Some(v) => read_spec(alloc, name, namespace, v, place),
+        Some(v) => read_spec(alloc, name, namespace, v, &Spot::of(place)),
         None => read_spec(
             alloc,
             name,
             namespace,
             &Value::Object(Map::new(alloc)),
-            place,
+            &Spot::of(place),
         ),
     }
 }
@@ -68,20 +66,20 @@ fn read_spec(
     name: Text,
     namespace: Text,
     v: &Value,
-    place: &Place,
+    at: &Spot,
 ) -> Result<AuthorizationPolicy, DocError>
     ensures { Reads result
-        (authorization_faults (view v.now) place.now)
+        (authorization_faults (view v.now) at.now)
         (authorization_in name namespace (view v.now)) }
 {
-    only_fields(alloc, v, AUTHORIZATION_FIELDS, place)?;
-    let labels = optional::<Selector>(alloc, v, SELECTOR, place)?;
-    no_targets(alloc, v, place)?;
-    let action = optional::<ActionWord>(alloc, v, ACTION, place)?.unwrap_or(Action::Allow);
-    let provider = optional::<Provider>(alloc, v, PROVIDER, place)?;
-    let rules = listed::<RuleEntry>(alloc, v, RULES, MOST, place)?;
+    at.only_fields(alloc, v, AUTHORIZATION_FIELDS)?;
+    let labels = optional::<Selector>(alloc, v, SELECTOR, at)?;
+    no_targets(alloc, v, at)?;
+    let action = optional::<ActionWord>(alloc, v, ACTION, at)?.unwrap_or(Action::Allow);
+    let provider = optional::<Provider>(alloc, v, PROVIDER, at)?;
+    let rules = listed::<RuleEntry>(alloc, v, RULES, MOST, at)?;
     if !belongs(action, &provider) {
-        return Err(refuse(alloc, place, Reason::ProviderRule));
+        return Err(at.refuse(alloc, Reason::ProviderRule));
     }
     Ok(AuthorizationPolicy {
         name,
@@ -152,9 +150,8 @@ impl Form for Provider {
 
     #[tactic(auto, unfolding(crate::specs::Authorization::provider_faults, crate::specs::Authorization::provider_in))]
     fn read(alloc: Global, v: &Value, at: &Spot) -> Result<Text, DocError> {
-        let place = at.place(alloc)?;
-        only_fields(alloc, v, NAME, &place)?;
-        required::<ProviderName>(alloc, v, NAME, &place)
+        at.only_fields(alloc, v, NAME)?;
+        required::<ProviderName>(alloc, v, NAME, at)
     }
 }
 

@@ -7,7 +7,7 @@ use crate::condition_keys::{ConditionKey, KeyName};
 use crate::limits::MOST;
 use crate::texts::ShortText;
 use crate::values::{BlockValue, PortValue, RequestPrincipal};
-use mesh_doc::{DocError, Form, Place, Reason, Spot, listed, only_fields, refuse, required};
+use mesh_doc::{DocError, Form, Reason, Spot, listed, required};
 use mesh_policy::{Condition, TextKey};
 use mesh_text::List;
 use serde_json::Value;
@@ -34,26 +34,20 @@ impl Form for WhenEntry {
 
     #[tactic(auto, unfolding(crate::specs::Conditions::condition_faults, crate::specs::Conditions::condition_in))]
     fn read(alloc: Global, v: &Value, at: &Spot) -> Result<Condition, DocError> {
-        let place = at.place(alloc)?;
-        only_fields(alloc, v, CONDITION_FIELDS, &place)?;
-        let key = required::<KeyName>(alloc, v, KEY, &place)?;
-        with_key(alloc, key, v, &place)
+        at.only_fields(alloc, v, CONDITION_FIELDS)?;
+        let key = required::<KeyName>(alloc, v, KEY, at)?;
+        with_key(alloc, key, v, at)
     }
 }
 
-fn with_key(
-    alloc: Global,
-    key: ConditionKey,
-    v: &Value,
-    place: &Place,
-) -> Result<Condition, DocError>
+fn with_key(alloc: Global, key: ConditionKey, v: &Value, at: &Spot) -> Result<Condition, DocError>
     ensures { Reads result
-        (conditions.values_faults key (view v.now) place.now)
+        (conditions.values_faults key (view v.now) at.now)
         (conditions.values_in key (view v.now)) }
 {
     match key {
         ConditionKey::Words(key) => {
-            let ValueLists { values, not_values } = both_lists::<ShortText>(alloc, v, place)?;
+            let ValueLists { values, not_values } = both_lists::<ShortText>(alloc, v, at)?;
             Ok(Condition::Words {
                 key,
                 values,
@@ -61,9 +55,7 @@ fn with_key(
             })
         }
         ConditionKey::Principals => {
-            let ValueLists { values, not_values } = both_lists::<RequestPrincipal>(
-                alloc, v, place,
-            )?;
+            let ValueLists { values, not_values } = both_lists::<RequestPrincipal>(alloc, v, at)?;
             Ok(Condition::Words {
                 key: TextKey::AuthPrincipal,
                 values,
@@ -71,7 +63,7 @@ fn with_key(
             })
         }
         ConditionKey::Blocks(key) => {
-            let ValueLists { values, not_values } = both_lists::<BlockValue>(alloc, v, place)?;
+            let ValueLists { values, not_values } = both_lists::<BlockValue>(alloc, v, at)?;
             Ok(Condition::Blocks {
                 key,
                 values,
@@ -79,7 +71,7 @@ fn with_key(
             })
         }
         ConditionKey::Ports => {
-            let ValueLists { values, not_values } = both_lists::<PortValue>(alloc, v, place)?;
+            let ValueLists { values, not_values } = both_lists::<PortValue>(alloc, v, at)?;
             Ok(Condition::Ports { values, not_values })
         }
     }
@@ -92,19 +84,15 @@ struct ValueLists<T> {
 }
 
 #[tactic(auto, unfolding(crate::specs::Conditions::both_faults))]
-fn both_lists<F: Form>(
-    alloc: Global,
-    v: &Value,
-    place: &Place,
-) -> Result<ValueLists<F::Out>, DocError>
+fn both_lists<F: Form>(alloc: Global, v: &Value, at: &Spot) -> Result<ValueLists<F::Out>, DocError>
     ensures { Reads result
-        (conditions.both_faults F.faults F.value (view v.now) place.now)
+        (conditions.both_faults F.faults F.value (view v.now) at.now)
         (conditions.both_in F.value (view v.now)) }
 {
-    let values = listed::<F>(alloc, v, VALUES, MOST, place)?;
-    let not_values = listed::<F>(alloc, v, NOT_VALUES, MOST, place)?;
+    let values = listed::<F>(alloc, v, VALUES, MOST, at)?;
+    let not_values = listed::<F>(alloc, v, NOT_VALUES, MOST, at)?;
     if values.as_slice().is_empty() && not_values.as_slice().is_empty() {
-        return Err(refuse(alloc, place, Reason::EmptyCondition));
+        return Err(at.refuse(alloc, Reason::EmptyCondition));
     }
     Ok(ValueLists { values, not_values })
 }

@@ -6,9 +6,7 @@ use crate::key_sets::{KeySetText, keys_of, unless_empty};
 use crate::limits::MOST;
 use crate::texts::{BoundedText, ShortText, is_name, lower};
 use crate::token_places::{FromHeader, FromParam, places_of};
-use mesh_doc::{
-    AnyTruth, DocError, Form, Reason, Spot, listed, only_fields, optional, refuse, required,
-};
+use mesh_doc::{AnyTruth, DocError, Form, Reason, Spot, listed, optional, required};
 use mesh_policy::JwtRule;
 use mesh_text::Text;
 use serde_json::Value;
@@ -46,18 +44,17 @@ impl Form for RuleForm {
 
     #[tactic(auto, unfolding(crate::specs::Request::rule_faults, crate::specs::Request::rule_in))]
     fn read(alloc: Global, v: &Value, at: &Spot) -> Result<JwtRule, DocError> {
-        let place = at.place(alloc)?;
-        only_fields(alloc, v, RULE_FIELDS, &place)?;
-        let issuer = required::<ShortText>(alloc, v, ISSUER, &place)?;
-        let audiences = listed::<ShortText>(alloc, v, AUDIENCES, MOST, &place)?;
-        let uri = optional::<BoundedText>(alloc, v, JWKS_URI, &place)?;
-        let set = optional::<KeySetText>(alloc, v, JWKS, &place)?;
-        let headers = listed::<FromHeader>(alloc, v, FROM_HEADERS, MOST, &place)?;
-        let params = listed::<FromParam>(alloc, v, FROM_PARAMS, MOST, &place)?;
-        let forward = optional::<AnyTruth>(alloc, v, FORWARD, &place)?;
-        let payload_header = optional::<PayloadHeader>(alloc, v, PAYLOAD_HEADER, &place)?;
+        at.only_fields(alloc, v, RULE_FIELDS)?;
+        let issuer = required::<ShortText>(alloc, v, ISSUER, at)?;
+        let audiences = listed::<ShortText>(alloc, v, AUDIENCES, MOST, at)?;
+        let uri = optional::<BoundedText>(alloc, v, JWKS_URI, at)?;
+        let set = optional::<KeySetText>(alloc, v, JWKS, at)?;
+        let headers = listed::<FromHeader>(alloc, v, FROM_HEADERS, MOST, at)?;
+        let params = listed::<FromParam>(alloc, v, FROM_PARAMS, MOST, at)?;
+        let forward = optional::<AnyTruth>(alloc, v, FORWARD, at)?;
+        let payload_header = optional::<PayloadHeader>(alloc, v, PAYLOAD_HEADER, at)?;
         let Some(keys) = keys_of(unless_empty(uri), unless_empty(set)) else {
-            return Err(refuse(alloc, &place, Reason::JwtKeys));
+            return Err(at.refuse(alloc, Reason::JwtKeys));
         };
         Ok(JwtRule {
             issuer,

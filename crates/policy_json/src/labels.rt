@@ -2,7 +2,7 @@ ghost use Rattle.serde_json.specs.View.{view};
 ghost use Rattle.mesh_doc.specs.Faults.{Reads};
 ghost use Rattle.policy_json.specs.Labels.{label_faults, label_in, labels_faults, labels_in, selector_faults, selector_in};
 
-use mesh_doc::{AnyText, DocError, Entry, Form, Place, Spot, members, only_fields, optional};
+use mesh_doc::{AnyText, DocError, Entry, Form, Place, Spot, members, optional};
 use mesh_policy::Label;
 use mesh_text::{List, Text};
 use serde_json::Value;
@@ -35,14 +35,14 @@ impl Entry for LabelEntry {
 
 /// The labels that an object of texts gives, in byte order of their keys. WrongType at `place` where `v` is no
 /// object, and else WrongType at the first key whose value is no text; a `null` is none.
-#[tactic(auto, unfolding(crate::specs::Labels::labels_faults, crate::specs::Labels::labels_in))]
 pub fn read_labels(alloc: Global, v: &Value, place: &Place) -> Result<List<Label>, DocError>
     ensures { Reads result (labels_faults (view v.now) place.now) (labels_in (view v.now)) }
 {
-    members::<LabelEntry>(alloc, v, place)
+    Labels::read(alloc, v, &Spot::of(place))
 }
 
-struct Labels;
+/// The form of `read_labels`.
+pub struct Labels;
 
 impl Form for Labels {
     type Out = List<Label>;
@@ -51,8 +51,9 @@ impl Form for Labels {
 
     ghost value = { labels_in };
 
+    #[tactic(auto, unfolding(crate::specs::Labels::labels_faults, crate::specs::Labels::labels_in))]
     fn read(alloc: Global, v: &Value, at: &Spot) -> Result<List<Label>, DocError> {
-        read_labels(alloc, v, &at.place(alloc)?)
+        members::<LabelEntry>(alloc, v, at)
     }
 }
 
@@ -68,9 +69,8 @@ impl Form for Selector {
 
     #[tactic(auto, unfolding(crate::specs::Labels::selector_faults, crate::specs::Labels::selector_in))]
     fn read(alloc: Global, v: &Value, at: &Spot) -> Result<List<Label>, DocError> {
-        let place = at.place(alloc)?;
-        only_fields(alloc, v, SELECTOR_FIELDS, &place)?;
-        let labels = optional::<Labels>(alloc, v, MATCH_LABELS, &place)?;
+        at.only_fields(alloc, v, SELECTOR_FIELDS)?;
+        let labels = optional::<Labels>(alloc, v, MATCH_LABELS, at)?;
         Ok(labels.unwrap_or(List::new(alloc)))
     }
 }

@@ -30,6 +30,6 @@ mod token_places;
 mod values;
 
 pub use authorization::read_authorization;
-pub use labels::read_labels;
+pub use labels::{Labels, read_labels};
 pub use peer::read_peer;
 pub use request::read_request;

@@ -3,7 +3,7 @@ ghost use Rattle.policy_json.specs.Operations.{operation_faults, operation_in};
 use crate::limits::MOST;
 use crate::texts::ShortText;
 use crate::values::{PathValue, PortValue};
-use mesh_doc::{DocError, Form, Spot, listed, only_fields};
+use mesh_doc::{DocError, Form, Spot, listed};
 use mesh_policy::OperationSpec;
 use serde_json::Value;
 use std::alloc::Global;
@@ -38,16 +38,15 @@ impl Form for Operation {
 
     #[tactic(auto, unfolding(crate::specs::Operations::operation_faults, crate::specs::Operations::operation_in))]
     fn read(alloc: Global, v: &Value, at: &Spot) -> Result<OperationSpec, DocError> {
-        let place = at.place(alloc)?;
-        only_fields(alloc, v, OPERATION_FIELDS, &place)?;
-        let hosts = listed::<ShortText>(alloc, v, HOSTS, MOST, &place)?;
-        let not_hosts = listed::<ShortText>(alloc, v, NOT_HOSTS, MOST, &place)?;
-        let ports = listed::<PortValue>(alloc, v, PORTS, MOST, &place)?;
-        let not_ports = listed::<PortValue>(alloc, v, NOT_PORTS, MOST, &place)?;
-        let methods = listed::<ShortText>(alloc, v, METHODS, MOST, &place)?;
-        let not_methods = listed::<ShortText>(alloc, v, NOT_METHODS, MOST, &place)?;
-        let paths = listed::<PathValue>(alloc, v, PATHS, MOST, &place)?;
-        let not_paths = listed::<PathValue>(alloc, v, NOT_PATHS, MOST, &place)?;
+        at.only_fields(alloc, v, OPERATION_FIELDS)?;
+        let hosts = listed::<ShortText>(alloc, v, HOSTS, MOST, at)?;
+        let not_hosts = listed::<ShortText>(alloc, v, NOT_HOSTS, MOST, at)?;
+        let ports = listed::<PortValue>(alloc, v, PORTS, MOST, at)?;
+        let not_ports = listed::<PortValue>(alloc, v, NOT_PORTS, MOST, at)?;
+        let methods = listed::<ShortText>(alloc, v, METHODS, MOST, at)?;
+        let not_methods = listed::<ShortText>(alloc, v, NOT_METHODS, MOST, at)?;
+        let paths = listed::<PathValue>(alloc, v, PATHS, MOST, at)?;
+        let not_paths = listed::<PathValue>(alloc, v, NOT_PATHS, MOST, at)?;
         Ok(OperationSpec {
             hosts,
             not_hosts,

@@ -5,7 +5,7 @@ ghost use Rattle.policy_json.specs.Peer.{mode_faults, mode_in, mtls_faults, mtls
 ghost use Rattle.policy_json.specs.Spec.{spec_of};
 
 use crate::labels::{SELECTOR, Selector};
-use mesh_doc::{DocError, Entry, Form, Place, Reason, Spot, members, only_fields, optional};
+use mesh_doc::{DocError, Entry, Form, Place, Reason, Spot, members, optional};
 use mesh_policy::{Mode, PeerAuthentication, PortMode};
 use mesh_text::{List, Text, decimal};
 use serde_json::{Map, Value};
@@ -42,14 +42,14 @@ pub fn read_peer(
         (peer_in name namespace age (spec_of (option_map (λ v. view v.now) spec.entry))) }
 {
     match spec {
-        Some(v) => read_spec(alloc, name, namespace, age, v, place),
+        Some(v) => read_spec(alloc, name, namespace, age, v, &Spot::of(place)),
         None => read_spec(
             alloc,
             name,
             namespace,
             age,
             &Value::Object(Map::new(alloc)),
-            place,
+            &Spot::of(place),
         ),
     }
 }
@@ -61,16 +61,16 @@ fn read_spec(
     namespace: Text,
     age: Option<Text>,
     v: &Value,
-    place: &Place,
+    at: &Spot,
 ) -> Result<PeerAuthentication, DocError>
     ensures { Reads result
-        (peer_faults (view v.now) place.now)
+        (peer_faults (view v.now) at.now)
         (peer_in name namespace age (view v.now)) }
 {
-    only_fields(alloc, v, PEER_FIELDS, place)?;
-    let labels = optional::<Selector>(alloc, v, SELECTOR, place)?;
-    let mode = optional::<Mtls>(alloc, v, MTLS, place)?;
-    let ports = optional::<Ports>(alloc, v, PORT_LEVEL_MTLS, place)?;
+    at.only_fields(alloc, v, PEER_FIELDS)?;
+    let labels = optional::<Selector>(alloc, v, SELECTOR, at)?;
+    let mode = optional::<Mtls>(alloc, v, MTLS, at)?;
+    let ports = optional::<Ports>(alloc, v, PORT_LEVEL_MTLS, at)?;
     Ok(PeerAuthentication {
         name,
         namespace,
@@ -132,9 +132,8 @@ impl Form for Mtls {
 
     #[tactic(auto, unfolding(crate::specs::Peer::mtls_faults, crate::specs::Peer::mtls_in))]
     fn read(alloc: Global, v: &Value, at: &Spot) -> Result<Option<Mode>, DocError> {
-        let place = at.place(alloc)?;
-        only_fields(alloc, v, MODE, &place)?;
-        let mode = optional::<ModeWord>(alloc, v, MODE, &place)?;
+        at.only_fields(alloc, v, MODE)?;
+        let mode = optional::<ModeWord>(alloc, v, MODE, at)?;
         Ok(mode.unwrap_or(None))
     }
 }
@@ -187,6 +186,6 @@ impl Form for Ports {
 
     #[tactic(auto, unfolding(crate::specs::Peer::ports_faults, crate::specs::Peer::ports_in))]
     fn read(alloc: Global, v: &Value, at: &Spot) -> Result<List<PortMode>, DocError> {
-        members::<PortEntry>(alloc, v, &at.place(alloc)?)
+        members::<PortEntry>(alloc, v, at)
     }
 }

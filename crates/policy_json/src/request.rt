@@ -8,7 +8,7 @@ use crate::jwt_rule::RuleForm;
 use crate::labels::{SELECTOR, Selector};
 use crate::limits::MOST;
 use crate::target_refs::no_targets;
-use mesh_doc::{DocError, Place, listed, only_fields, optional};
+use mesh_doc::{DocError, Place, Spot, listed, optional};
 use mesh_policy::RequestAuthentication;
 use mesh_text::{List, Text};
 use serde_json::{Map, Value};
@@ -33,13 +33,13 @@ pub fn read_request(
         (request_in name namespace (spec_of (option_map (λ v. view v.now) spec.entry))) }
 {
     match spec {
-        Some(v) => read_spec(alloc, name, namespace, v, place),
+        Some(v) => read_spec(alloc, name, namespace, v, &Spot::of(place)),
         None => read_spec(
             alloc,
             name,
             namespace,
             &Value::Object(Map::new(alloc)),
-            place,
+            &Spot::of(place),
         ),
     }
 }
@@ -50,16 +50,16 @@ fn read_spec(
     name: Text,
     namespace: Text,
     v: &Value,
-    place: &Place,
+    at: &Spot,
 ) -> Result<RequestAuthentication, DocError>
     ensures { Reads result
-        (request_faults (view v.now) place.now)
+        (request_faults (view v.now) at.now)
         (request_in name namespace (view v.now)) }
 {
-    only_fields(alloc, v, REQUEST_FIELDS, place)?;
-    let labels = optional::<Selector>(alloc, v, SELECTOR, place)?;
-    no_targets(alloc, v, place)?;
-    let rules = listed::<RuleForm>(alloc, v, JWT_RULES, MOST, place)?;
+    at.only_fields(alloc, v, REQUEST_FIELDS)?;
+    let labels = optional::<Selector>(alloc, v, SELECTOR, at)?;
+    no_targets(alloc, v, at)?;
+    let rules = listed::<RuleForm>(alloc, v, JWT_RULES, MOST, at)?;
     Ok(RequestAuthentication {
         name,
         namespace,

@@ -1,6 +1,6 @@
 use crate::read_request;
 use crate::tests::{refused, write_labels};
-use mesh_doc::{Place, below_key};
+use mesh_doc::{Place, Spot};
 use mesh_policy::{JwtRule, Keys, RequestAuthentication, TokenPlace};
 use mesh_text::{List, Text};
 use serde_json::Value;
@@ -48,7 +48,7 @@ fn told(rt: &impl Abort, alloc: Global, policy: &RequestAuthentication) -> Strin
 
 fn outcome(rt: &impl Abort, alloc: Global, spec: Option<&Value>) -> String {
     let whole: Place = List::new(alloc);
-    let place = below_key(alloc, &whole, "spec").expect(rt, "memory");
+    let place = Spot::key(&Spot::of(&whole), "spec").place(alloc).expect(rt, "memory");
     let name = Text::of(alloc, "r").expect(rt, "memory");
     let namespace = Text::of(alloc, "foo").expect(rt, "memory");
     match read_request(alloc, name, namespace, spec, &place) {

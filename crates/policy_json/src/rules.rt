@@ -6,7 +6,7 @@ use crate::conditions::WhenEntry;
 use crate::limits::MOST;
 use crate::operations::Operation;
 use crate::sources::Source;
-use mesh_doc::{DocError, Form, Place, Spot, field, listed, only_fields};
+use mesh_doc::{DocError, Form, Spot, field, listed};
 use mesh_policy::{OperationSpec, Rule, SourceSpec};
 use serde_json::{Map, Value};
 use std::alloc::Global;
@@ -35,11 +35,10 @@ impl Form for RuleEntry {
 
     #[tactic(auto, unfolding(crate::specs::Rules::rule_faults, crate::specs::Rules::rule_in))]
     fn read(alloc: Global, v: &Value, at: &Spot) -> Result<Rule, DocError> {
-        let place = at.place(alloc)?;
-        only_fields(alloc, v, RULE_FIELDS, &place)?;
-        let sources = listed::<FromEntry>(alloc, v, FROM, MOST, &place)?;
-        let operations = listed::<ToEntry>(alloc, v, TO, MOST, &place)?;
-        let conditions = listed::<WhenEntry>(alloc, v, WHEN, MOST, &place)?;
+        at.only_fields(alloc, v, RULE_FIELDS)?;
+        let sources = listed::<FromEntry>(alloc, v, FROM, MOST, at)?;
+        let operations = listed::<ToEntry>(alloc, v, TO, MOST, at)?;
+        let conditions = listed::<WhenEntry>(alloc, v, WHEN, MOST, at)?;
         Ok(Rule {
             sources,
             operations,
@@ -59,9 +58,8 @@ impl Form for FromEntry {
 
     #[tactic(auto, unfolding(crate::specs::Rules::from_faults, crate::specs::Rules::from_in))]
     fn read(alloc: Global, v: &Value, at: &Spot) -> Result<SourceSpec, DocError> {
-        let place = at.place(alloc)?;
-        only_fields(alloc, v, SOURCE, &place)?;
-        part::<Source>(alloc, v, SOURCE, &place)
+        at.only_fields(alloc, v, SOURCE)?;
+        part::<Source>(alloc, v, SOURCE, at)
     }
 }
 
@@ -76,20 +74,19 @@ impl Form for ToEntry {
 
     #[tactic(auto, unfolding(crate::specs::Rules::to_faults, crate::specs::Rules::to_in))]
     fn read(alloc: Global, v: &Value, at: &Spot) -> Result<OperationSpec, DocError> {
-        let place = at.place(alloc)?;
-        only_fields(alloc, v, OPERATION, &place)?;
-        part::<Operation>(alloc, v, OPERATION, &place)
+        at.only_fields(alloc, v, OPERATION)?;
+        part::<Operation>(alloc, v, OPERATION, at)
     }
 }
 
 // The field `name`, with one that is not there as the empty object.
 #[tactic(auto, unfolding(crate::specs::Rules::part_faults, crate::specs::Rules::part_in))]
-fn part<F: Form>(alloc: Global, v: &Value, name: &str, place: &Place) -> Result<F::Out, DocError>
+fn part<F: Form>(alloc: Global, v: &Value, name: &str, at: &Spot) -> Result<F::Out, DocError>
     ensures { Reads result
-        (part_faults name.now F.faults (view v.now) place.now)
+        (part_faults name.now F.faults (view v.now) at.now)
         (part_in name.now F.value (view v.now)) }
 {
-    let at = Spot::key(place, name);
+    let at = Spot::key(at, name);
     match field(v, name) {
         Some(found) => F::read(alloc, found, &at),
         None => F::read(alloc, &Value::Object(Map::new(alloc)), &at),

@@ -3,7 +3,7 @@ ghost use Rattle.policy_json.specs.Sources.{source_faults, source_in};
 use crate::limits::MOST;
 use crate::texts::ShortText;
 use crate::values::{BlockValue, RequestPrincipal};
-use mesh_doc::{DocError, Form, Spot, listed, only_fields};
+use mesh_doc::{DocError, Form, Spot, listed};
 use mesh_policy::SourceSpec;
 use serde_json::Value;
 use std::alloc::Global;
@@ -43,36 +43,29 @@ impl Form for Source {
 
     #[tactic(auto, unfolding(crate::specs::Sources::source_faults, crate::specs::Sources::source_in))]
     fn read(alloc: Global, v: &Value, at: &Spot) -> Result<SourceSpec, DocError> {
-        let place = at.place(alloc)?;
-        only_fields(alloc, v, SOURCE_FIELDS, &place)?;
-        let principals = listed::<ShortText>(alloc, v, PRINCIPALS, MOST, &place)?;
-        let not_principals = listed::<ShortText>(alloc, v, NOT_PRINCIPALS, MOST, &place)?;
+        at.only_fields(alloc, v, SOURCE_FIELDS)?;
+        let principals = listed::<ShortText>(alloc, v, PRINCIPALS, MOST, at)?;
+        let not_principals = listed::<ShortText>(alloc, v, NOT_PRINCIPALS, MOST, at)?;
         let request_principals = listed::<RequestPrincipal>(
             alloc,
             v,
             REQUEST_PRINCIPALS,
             MOST,
-            &place,
+            at,
         )?;
         let not_request_principals = listed::<RequestPrincipal>(
             alloc,
             v,
             NOT_REQUEST_PRINCIPALS,
             MOST,
-            &place,
+            at,
         )?;
-        let namespaces = listed::<ShortText>(alloc, v, NAMESPACES, MOST, &place)?;
-        let not_namespaces = listed::<ShortText>(alloc, v, NOT_NAMESPACES, MOST, &place)?;
-        let ip_blocks = listed::<BlockValue>(alloc, v, IP_BLOCKS, MOST, &place)?;
-        let not_ip_blocks = listed::<BlockValue>(alloc, v, NOT_IP_BLOCKS, MOST, &place)?;
-        let remote_ip_blocks = listed::<BlockValue>(alloc, v, REMOTE_IP_BLOCKS, MOST, &place)?;
-        let not_remote_ip_blocks = listed::<BlockValue>(
-            alloc,
-            v,
-            NOT_REMOTE_IP_BLOCKS,
-            MOST,
-            &place,
-        )?;
+        let namespaces = listed::<ShortText>(alloc, v, NAMESPACES, MOST, at)?;
+        let not_namespaces = listed::<ShortText>(alloc, v, NOT_NAMESPACES, MOST, at)?;
+        let ip_blocks = listed::<BlockValue>(alloc, v, IP_BLOCKS, MOST, at)?;
+        let not_ip_blocks = listed::<BlockValue>(alloc, v, NOT_IP_BLOCKS, MOST, at)?;
+        let remote_ip_blocks = listed::<BlockValue>(alloc, v, REMOTE_IP_BLOCKS, MOST, at)?;
+        let not_remote_ip_blocks = listed::<BlockValue>(alloc, v, NOT_REMOTE_IP_BLOCKS, MOST, at)?;
         Ok(SourceSpec {
             principals,
             not_principals,

@@ -3,7 +3,7 @@ ghost use Rattle.serde_json.specs.View.{view, items_view};
 ghost use Rattle.mesh_doc.specs.Faults.{Reads};
 ghost use Rattle.policy_json.specs.TargetRefs.{has_no_entry, no_target_faults, targets_faults};
 
-use mesh_doc::{DocError, Form, Place, Reason, Spot, optional};
+use mesh_doc::{DocError, Form, Reason, Spot, optional};
 use serde_json::Value;
 use std::alloc::Global;
 
@@ -11,14 +11,14 @@ const TARGET_REFS: &str = "targetRefs";
 
 const TARGET_REF: &str = "targetRef";
 
-/// Reads the fields `targetRefs` and `targetRef` of the policy `v` at `place`, which name no target: TargetRefs at
+/// Reads the fields `targetRefs` and `targetRef` of the policy `v` at `at`, which name no target: TargetRefs at
 /// the first with a value other than `null` and the empty list (Istio reference, PolicyTargetReference).
 #[tactic(auto, unfolding(crate::specs::TargetRefs::targets_faults))]
-pub(crate) fn no_targets(alloc: Global, v: &Value, place: &Place) -> Result<(), DocError>
-    ensures { Reads result (targets_faults (view v.now) place.now) tt }
+pub(crate) fn no_targets(alloc: Global, v: &Value, at: &Spot) -> Result<(), DocError>
+    ensures { Reads result (targets_faults (view v.now) at.now) tt }
 {
-    optional::<NoTarget>(alloc, v, TARGET_REFS, place)?;
-    optional::<NoTarget>(alloc, v, TARGET_REF, place)?;
+    optional::<NoTarget>(alloc, v, TARGET_REFS, at)?;
+    optional::<NoTarget>(alloc, v, TARGET_REF, at)?;
     Ok(())
 }
 

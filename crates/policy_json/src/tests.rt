@@ -1,5 +1,5 @@
 use super::*;
-use mesh_doc::{DocError, Place, below_key, place_text};
+use mesh_doc::{DocError, Place, Spot, place_text};
 use mesh_policy::{Label, Mode, PeerAuthentication};
 use mesh_text::{List, Text};
 use serde_json::Value;
@@ -46,7 +46,7 @@ fn told(rt: &impl Abort, alloc: Global, peer: &PeerAuthentication) -> String {
 fn a_peer_policy_is_its_spec(rt: HostRuntime) {
     let alloc = rt.alloc();
     let whole: Place = List::new(alloc);
-    let place = below_key(alloc, &whole, "spec").expect(&rt, "memory");
+    let place = Spot::key(&Spot::of(&whole), "spec").place(alloc).expect(&rt, "memory");
     for (text, want) in [
         ("{}", "-"),
         (r#"{"selector":null,"mtls":null,"portLevelMtls":null}"#, "-"),

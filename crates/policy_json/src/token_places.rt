@@ -2,7 +2,7 @@ ghost use Rattle.std.specs.Prelude.{◌≡◌, ◌++◌, IfOk};
 ghost use Rattle.policy_json.specs.TokenPlaces.{default_places, header_faults, header_in, param_faults, param_in, places_of};
 
 use crate::texts::{BoundedText, LowerName, ShortText};
-use mesh_doc::{DocError, Form, Spot, only_fields, optional, required};
+use mesh_doc::{DocError, Form, Spot, optional, required};
 use mesh_policy::TokenPlace;
 use mesh_text::{List, Memory, Text};
 use serde_json::Value;
@@ -32,10 +32,9 @@ impl Form for FromHeader {
 
     #[tactic(auto, unfolding(crate::specs::TokenPlaces::header_faults, crate::specs::TokenPlaces::header_in))]
     fn read(alloc: Global, v: &Value, at: &Spot) -> Result<TokenPlace, DocError> {
-        let place = at.place(alloc)?;
-        only_fields(alloc, v, HEADER_FIELDS, &place)?;
-        let name = required::<LowerName>(alloc, v, NAME, &place)?;
-        let prefix = match optional::<BoundedText>(alloc, v, PREFIX, &place)? {
+        at.only_fields(alloc, v, HEADER_FIELDS)?;
+        let name = required::<LowerName>(alloc, v, NAME, at)?;
+        let prefix = match optional::<BoundedText>(alloc, v, PREFIX, at)? {
             Some(prefix) => prefix,
             None => Text::of(alloc, "")?,
         };

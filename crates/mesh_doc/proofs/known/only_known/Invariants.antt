@@ -5,4 +5,4 @@ use Rattle.mesh_doc.specs.Fields.{unknown_in}
 use Rattle.mesh_doc.proofs.known.only_known.Given as goal
 
 abbrev pub invariant-loop-name : goal.invariant-loop-name
-invariant-loop-name l = first (unknown_in l.known (members_view l.members.entries) l.place) ≡ first (unknown_in l.known (members_view l.name-iterator) l.place)
+invariant-loop-name l = first (unknown_in l.known (members_view l.members.entries) l.at) ≡ first (unknown_in l.known (members_view l.name-iterator) l.at)

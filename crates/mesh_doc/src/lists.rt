@@ -89,7 +89,7 @@ fn each<F: Form>(alloc: Global, items: &[Value], at: &Spot) -> Result<List<F::Ou
         (lists.each_faults F.faults 0 (items_view items.now) at.now)
         (lists.each_in F.value (items_view items.now)) }
 {
-    let mut all = List::new(alloc);
+    let mut all = List::with_room(alloc, items.len())?;
     for (i, v) in items.iter().enumerate() {
         all.push(F::read(alloc, v, &Spot::index(at, i as u32))?)?;
     }

@@ -227,7 +227,10 @@ fn null_is_a_value(rt: &impl Abort, alloc: Global, v: &Value, whole: &Spot) {
 fn faults_are_made(rt: &impl Abort, alloc: Global, whole: &Place) {
     let here: Result<(), DocError> = Err(refuse(alloc, whole, Reason::BadPort));
     assert_eq!(rt; told(rt, alloc, here).as_str(), "$: BadPort");
-    let there: Result<(), DocError> = Err(Spot::index(&Spot::of(whole), 7).refuse(alloc, Reason::BadTime));
+    let there: Result<(), DocError> = Err(Spot::index(&Spot::of(whole), 7).refuse(
+        alloc,
+        Reason::BadTime,
+    ));
     assert_eq!(rt; told(rt, alloc, there).as_str(), "$/7: BadTime");
     let gone: Result<(), DocError> = Err(missing(alloc, "k", whole));
     assert_eq!(rt; told(rt, alloc, gone).as_str(), "$/k: MissingField");

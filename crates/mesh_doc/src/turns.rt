@@ -105,7 +105,7 @@ fn each<F: InTurn>(
         (lists.each_in F.value (items_view items.now)) }
 {
     let mut seen = seen;
-    let mut all = Entries::new(alloc);
+    let mut all = Entries::with_room(alloc, items.len())?;
     for (i, v) in items.iter().enumerate() {
         all.push(F::read(alloc, &mut seen, v, &Spot::index(at, i as u32))?)?;
     }

@@ -14,7 +14,7 @@ pub trait TryCopy {
 pub fn copy_all<T: TryCopy + Drop>(alloc: Global, items: &[T]) -> Result<List<T>, Memory>
     ensures { IfOk result (λ l. l ≡ items.now) }
 {
-    let mut copies = List::new(alloc);
+    let mut copies = List::with_room(alloc, items.len())?;
     for item in items {
         copies.push(item.try_copy(alloc)?)?;
     }

@@ -1,4 +1,4 @@
-ghost use Rattle.std.specs.Prelude.{◌≡◌, [], ◌∷◌, ◌++◌, OnOk, OnErr};
+ghost use Rattle.std.specs.Prelude.{◌≡◌, [], ◌∷◌, ◌++◌, IfOk, OnOk, OnErr};
 ghost use Rattle.std.specs.Hash as fed;
 ghost use Rattle.std.specs.Hash.{items_Alike};
 ghost use Rattle.std.specs.Cmp.Lexicographic.{pointwise, lists_equiv, lists_per};
@@ -33,6 +33,15 @@ impl<T> List<T> {
         List {
             items: Vec::new(alloc),
         }
+    }
+
+    /// A list without items, with memory for the first `room` of them.
+    pub fn with_room(alloc: Global, room: usize) -> Result<List<T>, Memory>
+        ensures { IfOk result (λ l. l ≡ []) }
+    {
+        Ok(List {
+            items: Vec::with_capacity(alloc, room)?,
+        })
     }
 
     pub fn from_vec(items: Vec<T>) -> List<T>

@@ -153,7 +153,9 @@ fn told(rt: &impl Abort, alloc: Global, policy: &AuthorizationPolicy) -> String 
 /// The policy of a spec as it is told, or its first fault.
 pub(crate) fn outcome(rt: &impl Abort, alloc: Global, text: &str) -> String {
     let whole: Place = List::new(alloc);
-    let place = Spot::key(&Spot::of(&whole), "spec").place(alloc).expect(rt, "memory");
+    let place = Spot::key(&Spot::of(&whole), "spec")
+        .place(alloc)
+        .expect(rt, "memory");
     let v = Value::from_str(alloc, text).expect(rt, "JSON");
     let name = Text::of(alloc, "m").expect(rt, "memory");
     let namespace = Text::of(alloc, "foo").expect(rt, "memory");

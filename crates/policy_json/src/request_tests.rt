@@ -48,7 +48,9 @@ fn told(rt: &impl Abort, alloc: Global, policy: &RequestAuthentication) -> Strin
 
 fn outcome(rt: &impl Abort, alloc: Global, spec: Option<&Value>) -> String {
     let whole: Place = List::new(alloc);
-    let place = Spot::key(&Spot::of(&whole), "spec").place(alloc).expect(rt, "memory");
+    let place = Spot::key(&Spot::of(&whole), "spec")
+        .place(alloc)
+        .expect(rt, "memory");
     let name = Text::of(alloc, "r").expect(rt, "memory");
     let namespace = Text::of(alloc, "foo").expect(rt, "memory");
     match read_request(alloc, name, namespace, spec, &place) {

@@ -46,7 +46,9 @@ fn told(rt: &impl Abort, alloc: Global, peer: &PeerAuthentication) -> String {
 fn a_peer_policy_is_its_spec(rt: HostRuntime) {
     let alloc = rt.alloc();
     let whole: Place = List::new(alloc);
-    let place = Spot::key(&Spot::of(&whole), "spec").place(alloc).expect(&rt, "memory");
+    let place = Spot::key(&Spot::of(&whole), "spec")
+        .place(alloc)
+        .expect(&rt, "memory");
     for (text, want) in [
         ("{}", "-"),
         (r#"{"selector":null,"mtls":null,"portLevelMtls":null}"#, "-"),

@@ -6,7 +6,7 @@ use crate::metadata::{AuthorizationMeta, METADATA, PeerMeta, PlainMeta};
 use crate::pod::SPEC;
 use mesh_doc::{DocError, Spot, field, required};
 use mesh_policy::{AuthorizationPolicy, PeerAuthentication, RequestAuthentication};
-use policy_json::{read_authorization, read_peer, read_request};
+use policy_json::{read_authorization_at, read_peer_at, read_request_at};
 use serde_json::Value;
 use std::alloc::Global;
 
@@ -24,8 +24,8 @@ pub(crate) fn read_authorization_item(
 {
     at.object(alloc, item)?;
     let names = required::<AuthorizationMeta>(alloc, item, METADATA, at)?;
-    let below = Spot::key(at, SPEC).place(alloc)?;
-    read_authorization(
+    let below = Spot::key(at, SPEC);
+    read_authorization_at(
         alloc,
         names.name,
         names.namespace,
@@ -48,8 +48,8 @@ pub(crate) fn read_peer_item(
 {
     at.object(alloc, item)?;
     let metadata = required::<PeerMeta>(alloc, item, METADATA, at)?;
-    let below = Spot::key(at, SPEC).place(alloc)?;
-    read_peer(
+    let below = Spot::key(at, SPEC);
+    read_peer_at(
         alloc,
         metadata.names.name,
         metadata.names.namespace,
@@ -73,8 +73,8 @@ pub(crate) fn read_request_item(
 {
     at.object(alloc, item)?;
     let names = required::<PlainMeta>(alloc, item, METADATA, at)?;
-    let below = Spot::key(at, SPEC).place(alloc)?;
-    read_request(
+    let below = Spot::key(at, SPEC);
+    read_request_at(
         alloc,
         names.name,
         names.namespace,

@@ -33,10 +33,28 @@ const AUDIT: &str = "AUDIT";
 
 const CUSTOM: &str = "CUSTOM";
 
-/// The AuthorizationPolicy that the `spec` at `place` means (Istio reference, "Authorization Policy"), or its first
+/// The AuthorizationPolicy that the `spec` at `at` means (Istio reference, "Authorization Policy"), or its first
 /// fault: UnknownField, WrongType, MissingField, TargetRefs, BadEnum, BadName, TooMany, BadValue, BadPort, BadCidr,
 /// TooManySlashes, BadTemplate, BadKey, EmptyCondition, and last ProviderRule. None stands for a `spec` that is not
 /// written or `null`. A list has at most 2,048 entries, and a value of a rule 1 to 1,024 bytes.
+pub fn read_authorization_at(
+    alloc: Global,
+    name: Text,
+    namespace: Text,
+    spec: Option<&Value>,
+    at: &Spot,
+) -> Result<AuthorizationPolicy, DocError>
+    ensures { Reads result
+        (authorization_faults (spec_of (option_map (λ v. view v.now) spec.entry)) at.now)
+        (authorization_in name namespace (spec_of (option_map (λ v. view v.now) spec.entry))) }
+{
+    match spec {
+        Some(v) => read_spec(alloc, name, namespace, v, at),
+        None => read_spec(alloc, name, namespace, &Value::Object(Map::new(alloc)), at),
+    }
+}
+
+/// As `read_authorization_at`, of the `spec` at `place`.
 pub fn read_authorization(
     alloc: Global,
     name: Text,
@@ -48,16 +66,7 @@ pub fn read_authorization(
         (authorization_faults (spec_of (option_map (λ v. view v.now) spec.entry)) place.now)
         (authorization_in name namespace (spec_of (option_map (λ v. view v.now) spec.entry))) }
 {
-    match spec {
-        Some(v) => read_spec(alloc, name, namespace, v, &Spot::of(place)),
-        None => read_spec(
-            alloc,
-            name,
-            namespace,
-            &Value::Object(Map::new(alloc)),
-            &Spot::of(place),
-        ),
-    }
+    read_authorization_at(alloc, name, namespace, spec, &Spot::of(place))
 }
 
 #[tactic(auto, unfolding(crate::specs::Authorization::authorization_faults, crate::specs::Authorization::authorization_in))]

@@ -29,7 +29,7 @@ mod texts;
 mod token_places;
 mod values;
 
-pub use authorization::read_authorization;
+pub use authorization::{read_authorization, read_authorization_at};
 pub use labels::{Labels, read_labels};
-pub use peer::read_peer;
-pub use request::read_request;
+pub use peer::{read_peer, read_peer_at};
+pub use request::{read_request, read_request_at};

@@ -27,8 +27,34 @@ const PERMISSIVE: &str = "PERMISSIVE";
 
 const STRICT: &str = "STRICT";
 
-/// The PeerAuthentication that the `spec` at `place` means (Istio reference, PeerAuthentication), or its first
+/// The PeerAuthentication that the `spec` at `at` means (Istio reference, PeerAuthentication), or its first
 /// fault: UnknownField, WrongType, BadEnum, BadPort. None stands for a `spec` that is not written or `null`.
+pub fn read_peer_at(
+    alloc: Global,
+    name: Text,
+    namespace: Text,
+    age: Option<Text>,
+    spec: Option<&Value>,
+    at: &Spot,
+) -> Result<PeerAuthentication, DocError>
+    ensures { Reads result
+        (peer_faults (spec_of (option_map (λ v. view v.now) spec.entry)) at.now)
+        (peer_in name namespace age (spec_of (option_map (λ v. view v.now) spec.entry))) }
+{
+    match spec {
+        Some(v) => read_spec(alloc, name, namespace, age, v, at),
+        None => read_spec(
+            alloc,
+            name,
+            namespace,
+            age,
+            &Value::Object(Map::new(alloc)),
+            at,
+        ),
+    }
+}
+
+/// As `read_peer_at`, of the `spec` at `place`.
 pub fn read_peer(
     alloc: Global,
     name: Text,
@@ -41,17 +67,7 @@ pub fn read_peer(
         (peer_faults (spec_of (option_map (λ v. view v.now) spec.entry)) place.now)
         (peer_in name namespace age (spec_of (option_map (λ v. view v.now) spec.entry))) }
 {
-    match spec {
-        Some(v) => read_spec(alloc, name, namespace, age, v, &Spot::of(place)),
-        None => read_spec(
-            alloc,
-            name,
-            namespace,
-            age,
-            &Value::Object(Map::new(alloc)),
-            &Spot::of(place),
-        ),
-    }
+    read_peer_at(alloc, name, namespace, age, spec, &Spot::of(place))
 }
 
 #[tactic(auto, unfolding(crate::specs::Peer::peer_faults, crate::specs::Peer::peer_in))]

@@ -18,9 +18,27 @@ const REQUEST_FIELDS: &str = "jwtRules selector targetRef targetRefs";
 
 const JWT_RULES: &str = "jwtRules";
 
-/// The RequestAuthentication that the `spec` at `place` means (Istio reference, RequestAuthentication), or its first
+/// The RequestAuthentication that the `spec` at `at` means (Istio reference, RequestAuthentication), or its first
 /// fault: UnknownField, WrongType, MissingField, BadName, BadValue, TargetRefs, JwtKeys, TooMany for a list of more
 /// than 2,048 entries. None stands for a `spec` that is not written or `null`.
+pub fn read_request_at(
+    alloc: Global,
+    name: Text,
+    namespace: Text,
+    spec: Option<&Value>,
+    at: &Spot,
+) -> Result<RequestAuthentication, DocError>
+    ensures { Reads result
+        (request_faults (spec_of (option_map (λ v. view v.now) spec.entry)) at.now)
+        (request_in name namespace (spec_of (option_map (λ v. view v.now) spec.entry))) }
+{
+    match spec {
+        Some(v) => read_spec(alloc, name, namespace, v, at),
+        None => read_spec(alloc, name, namespace, &Value::Object(Map::new(alloc)), at),
+    }
+}
+
+/// As `read_request_at`, of the `spec` at `place`.
 pub fn read_request(
     alloc: Global,
     name: Text,
@@ -32,16 +50,7 @@ pub fn read_request(
         (request_faults (spec_of (option_map (λ v. view v.now) spec.entry)) place.now)
         (request_in name namespace (spec_of (option_map (λ v. view v.now) spec.entry))) }
 {
-    match spec {
-        Some(v) => read_spec(alloc, name, namespace, v, &Spot::of(place)),
-        None => read_spec(
-            alloc,
-            name,
-            namespace,
-            &Value::Object(Map::new(alloc)),
-            &Spot::of(place),
-        ),
-    }
+    read_request_at(alloc, name, namespace, spec, &Spot::of(place))
 }
 
 #[tactic(auto, unfolding(crate::specs::Request::request_faults, crate::specs::Request::request_in))]

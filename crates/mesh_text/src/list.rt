@@ -35,7 +35,7 @@ impl<T> List<T> {
         }
     }
 
-    /// A list without items, with memory for the first `room` of them.
+    /// A list without items. It asks for the memory of `room` items at once, for speed alone: no clause speaks of it.
     pub fn with_room(alloc: Global, room: usize) -> Result<List<T>, Memory>
         ensures { IfOk result (λ l. l ≡ []) }
     {

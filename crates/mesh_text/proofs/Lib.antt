@@ -1,3 +1,3 @@
-pub mod Numbers
+pub mod NumberLemmas
 pub mod PartsLemmas
 pub mod TimeLemmas

@@ -2,15 +2,19 @@
 use Rattle.std.specs.Prelude.{◌≡◌, ℕ, Bool, true, false, ◌&&◌, ◌||◌, ◌==◌, List, [], ◌∷◌, ◌++◌}
 use Rattle.std.specs.Str.{bytes_eq}
 
+-- the whole begins with it
 abbrev pub IsPrefix : List ℕ → List ℕ → Type 0
 IsPrefix front whole = (rest : List ℕ) × (whole ≡ front ++ rest)
 
+-- the whole ends with it
 abbrev pub IsSuffix : List ℕ → List ℕ → Type 0
 IsSuffix end whole = (start : List ℕ) × (whole ≡ start ++ end)
 
+-- it stands somewhere in the whole
 abbrev pub IsPart : List ℕ → List ℕ → Type 0
 IsPart part whole = (start : List ℕ) × (rest : List ℕ) × (whole ≡ start ++ (part ++ rest))
 
+-- byte by byte like the front of the whole
 abbrev pub is_prefix : List ℕ → List ℕ → Bool
 is_prefix [] whole = true
 is_prefix (c ∷ cs) [] = false

@@ -1,3 +1,4 @@
+// An owned value behind a pointer, for types that reach themselves.
 ghost use Rattle.std.specs.Prelude.{◌≡◌, IfOk};
 
 use crate::Memory;

@@ -1,3 +1,4 @@
+// Names of the domain name system, as Kubernetes takes them.
 ghost use Rattle.std.specs.Prelude.{◌≡◌};
 ghost use Rattle.std.specs.List.{list_all};
 ghost use Rattle.mesh_text.specs.Dns.{is_label, is_name_byte, is_piece, is_subdomain};

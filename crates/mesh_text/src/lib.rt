@@ -23,6 +23,3 @@ pub use parts::{contains, is_prefix, is_suffix};
 pub use text::Text;
 pub use time::is_time;
 pub use token::is_token;
-
-#[cfg(test)]
-mod tests;

@@ -1,3 +1,4 @@
+// Want of memory.
 use std::alloc::{AllocError, AllocFailed};
 
 /// Want of memory: the one answer that no contract ties to a cause.

@@ -1,5 +1,6 @@
+// Decimal numbers in text.
 ghost use Rattle.std.specs.Prelude.{◌≡◌};
-ghost use Rattle.mesh_text.specs.Decimal.{decimal_of};
+ghost use Rattle.mesh_text.specs.Number.{decimal_of};
 
 /// The number that `s` spells in decimal without leading zeros, from 0 to 65,535. None for every other text.
 pub fn decimal(s: &str) -> Option<u16>

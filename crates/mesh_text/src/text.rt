@@ -1,4 +1,5 @@
-ghost use Rattle.std.specs.Prelude.{◌≡◌, ◌==◌, IfOk, string_bytes};
+// An owned text, seen as its bytes.
+ghost use Rattle.std.specs.Prelude.{◌≡◌, ◌==◌, IfOk, Some, string_bytes};
 ghost use Rattle.std.specs.Hash as fed;
 ghost use Rattle.std.specs.Ordering.{nat_cmp, as_partial_cmp};
 ghost use Rattle.std.specs.Cmp.{partial_equiv_from_equiv};
@@ -9,8 +10,10 @@ ghost use Rattle.std.proofs.Common.{rules};
 use crate::Memory;
 use std::alloc::Global;
 use std::cmp::Ordering;
+use std::fmt;
 use std::hash::{Hash, Hasher};
 use std::marker::Model;
+use std::ops::DerefStr;
 
 /// An owned UTF-8 text. Contracts see it as its bytes; it is ordered by them.
 #[derive(Debug, Drop)]
@@ -55,6 +58,22 @@ impl Text {
         ensures { IfOk result (λ t. t ≡ self.now) }
     {
         Text::of(alloc, self.as_str())
+    }
+}
+
+impl DerefStr for Text {
+    ghost deref_gives = { λ t bytes. bytes ≡ t };
+
+    fn deref(&self) -> &str {
+        self.as_str()
+    }
+}
+
+impl fmt::Display for Text {
+    ghost output = { λ t. Some t };
+
+    fn fmt<W: fmt::Write>(&self, f: &mut fmt::Formatter<W>) -> fmt::Result {
+        f.pad(self.as_str())
     }
 }
 

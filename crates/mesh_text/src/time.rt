@@ -1,3 +1,4 @@
+// Points in time in text.
 ghost use Rattle.std.specs.Prelude.{◌≡◌, ◌<◌, ◌+◌, length, IsTrue};
 ghost use Rattle.mesh_text.specs.Time.{fits_form, is_clock, is_date, is_time, is_within};
 

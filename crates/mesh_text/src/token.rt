@@ -1,3 +1,4 @@
+// Tokens of HTTP.
 ghost use Rattle.std.specs.Prelude.{◌≡◌};
 ghost use Rattle.std.specs.List.{list_all};
 ghost use Rattle.mesh_text.specs.Token.{is_token, is_token_byte};

@@ -1,6 +1,7 @@
 use Rattle.std.proofs.Common.{rules}
-use Rattle.mesh_text.proofs.PartsLemmas.{prefix_means}
+use Rattle.std.proofs.lemmas.Bool.Decides.{Decides-at}
+use Rattle.mesh_text.proofs.PartsLemmas.{is_prefix-Decides}
 use Rattle.mesh_text.proofs.folded.is_prefix_fold.Goals as goal
 
 pub returns-clause-means : goal.returns-clause-means
-returns-clause-means c = prefix_means _ _ _ (search rules)
+returns-clause-means c = Decides-at _ _ (search rules) (is_prefix-Decides _ _)

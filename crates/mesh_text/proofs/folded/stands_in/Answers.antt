@@ -1,9 +1,13 @@
 use Rattle.std.proofs.Common.{◌∙◌, sym, arith}
-use Rattle.mesh_text.proofs.PartsLemmas.{folded_further, folded_over}
+use Rattle.mesh_text.proofs.PartsLemmas.{lower_further, lower_over}
 use Rattle.mesh_text.proofs.folded.stands_in.Goals as goal
 
 pub loop-start-preserved : goal.loop-start-preserved
-loop-start-preserved c = c.loop-start.invariant ∙ folded_further _ c.args.whole.now c.loop-start.start (omega arith) (sym c.if-begins_with.ensures)
+loop-start-preserved c =
+    c.loop-start.invariant
+    ∙ lower_further _ c.args.whole.now c.loop-start.start (omega arith) (sym c.if-begins_with.ensures)
 
 pub returns : goal.returns
-returns c = c.is_empty.ensures ∙ sym (c.loop-start.invariant ∙ folded_over c.args.part.now c.args.whole.now c.loop-start.start (omega arith))
+returns c =
+    c.is_empty.ensures
+    ∙ sym (c.loop-start.invariant ∙ lower_over c.args.part.now c.args.whole.now c.loop-start.start (omega arith))

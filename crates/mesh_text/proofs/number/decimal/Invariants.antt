@@ -1,6 +1,6 @@
 use Rattle.std.proofs.Common.{◌≡◌, ◌≤◌, drop}
 use Rattle.std.specs.List.{list_all}
-use Rattle.mesh_text.specs.Decimal.{is_digit, spelled_after}
+use Rattle.mesh_text.specs.Number.{is_digit, spelled_after}
 use Rattle.mesh_text.proofs.number.decimal.Given as goal
 
 abbrev pub invariant-loop-digit : goal.invariant-loop-digit

@@ -49,17 +49,22 @@ module _ (from to : RattleType) (h : from.Denot → to.Denot) where
   unfolding part_of
   box_places same = record {
     mir_same = λ i. (box_row (one_value from (same.mir_same i) (λ _. ftrue) (λ _ _. nothing) gnil)).mir;
-    own_same = λ b i. (box_row (one_value from (same.mir_same i) (same.own_same b.value i) (same.shr_same b.value i) gnil)).own_val (holding b tt);
-    shr_same = λ b i. (box_row (one_value from (same.mir_same i) (same.own_same b.value i) (same.shr_same b.value i) gnil)).shr_at (holding b tt);
+    own_same = λ b i.
+        (box_row (one_value from (same.mir_same i) (same.own_same b.value i) (same.shr_same b.value i) gnil)).own_val (holding b tt);
+    shr_same = λ b i.
+        (box_row (one_value from (same.mir_same i) (same.own_same b.value i) (same.shr_same b.value i) gnil)).shr_at (holding b tt);
   }
 
-  pub the_places : Alike from to h → Alike (contract.the_row from) (contract.the_row to) ((the_former this).map from.Denot to.Denot h)
+  pub the_places : Alike from to h
+      → Alike (contract.the_row from) (contract.the_row to) ((the_former this).map from.Denot to.Denot h)
   the_places same =
       let field = laid _ _ _ (box_places same) in
-      view_places stored this view (λ X Y k u. refl) (λ X u. refl) from.Denot to.Denot h (contract.the_row from).coded (contract.the_row to).coded
+      view_places stored this view (λ X Y k u. refl) (λ X u. refl) from.Denot to.Denot h
+      (contract.the_row from).coded (contract.the_row to).coded
       (invariant from.Denot) (invariant to.Denot) (λ u p q. refl) (λ u p q. refl) (λ u e. tt) (λ u e. tt)
       (over (inside.the_row from)) (over (inside.the_row to))
       (struct_places (inside.the_type from) (inside.the_type to) ((λ b. holding b (h b.value)), tt) _ (λ d. refl) refl (field, tt))
 
-  pub the_codes_placed : Recodes from to h → Recodes (contract.the_row from) (contract.the_row to) ((the_former this).map from.Denot to.Denot h)
+  pub the_codes_placed : Recodes from to h
+      → Recodes (contract.the_row from) (contract.the_row to) ((the_former this).map from.Denot to.Denot h)
   the_codes_placed same value = same value

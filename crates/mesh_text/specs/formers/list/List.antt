@@ -42,13 +42,16 @@ abbrev stored : Former {0}
 stored = via (vec.the_former this Global) Inside (λ X l. l.items) (λ X v. record { items = v }) (λ X l. refl) (λ X v. refl)
 
 module _ (from to : RattleType) (h : from.Denot → to.Denot) where
-  pub the_places : Alike from to h → Alike (contract.the_row from) (contract.the_row to) ((the_former this).map from.Denot to.Denot h)
+  pub the_places : Alike from to h
+      → Alike (contract.the_row from) (contract.the_row to) ((the_former this).map from.Denot to.Denot h)
   the_places same =
       let field = laid _ _ _ (vec.the_places heap.the_row ghosts from to h same) in
-      view_places stored (list this) view (λ X Y k u. refl) (λ X u. refl) from.Denot to.Denot h (contract.the_row from).coded (contract.the_row to).coded
+      view_places stored (list this) view (λ X Y k u. refl) (λ X u. refl) from.Denot to.Denot h
+      (contract.the_row from).coded (contract.the_row to).coded
       (invariant from.Denot) (invariant to.Denot) (λ u p q. refl) (λ u p q. refl) (λ u e. tt) (λ u e. tt)
       (over (inside.the_row from)) (over (inside.the_row to))
       (struct_places (inside.the_type from) (inside.the_type to) (vec.mapped h, tt) _ (λ d. refl) refl (field, tt))
 
-  pub the_codes_placed : Recodes from to h → Recodes (contract.the_row from) (contract.the_row to) ((the_former this).map from.Denot to.Denot h)
+  pub the_codes_placed : Recodes from to h
+      → Recodes (contract.the_row from) (contract.the_row to) ((the_former this).map from.Denot to.Denot h)
   the_codes_placed same items = sym (code_map from.coded.code to.coded.code h (λ x. sym (same x)) items)

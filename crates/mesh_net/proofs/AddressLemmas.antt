@@ -1,5 +1,6 @@
 -- `ip_of` gives exactly the address that a text spells.
-use Rattle.std.proofs.Common.{◌≡◌, ℕ, ◌==◌, List, [], ◌++◌, length, Option, Some, None, option_map, sym, refl, ap, ◌∙◌, subst, append-nil, arith, lit≤}
+use Rattle.std.proofs.Common.{◌≡◌, ℕ, ◌==◌, List, [], ◌++◌, length, Option, Some, None, option_map}
+use Rattle.std.proofs.Common.{sym, refl, ap, ◌∙◌, subst, append-nil, arith, lit≤}
 use Rattle.std.specs.Int.Digits.{number_from_digits}
 use Rattle.std.specs.declared.net.ip_addr.IpAddr.{IpAddr as StdIpAddr}
 use Rattle.std.specs.declared.net.ip_addr.IpAddr.TheVariants as Std

@@ -1,12 +1,12 @@
 -- What is written spells the address that was written.
-use Rattle.std.proofs.Common.{◌≡◌, ℕ, zero, suc, ◌+◌, ◌*◌, ◌/◌, ◌%◌, ◌^◌, ◌<◌, ◌≤◌, ◌==◌, Bool, true, false, if◌then◌else◌, List, [], ◌∷◌, ◌++◌, length, Some, codes, IfOk, Result, Ok, Err, inl, sym, refl, ap, ◌∙◌, arith, lit≤, append_assoc, ◌-◌}
+use Rattle.std.proofs.Common.{◌≡◌, ℕ, zero, suc, ◌+◌, ◌-◌, ◌*◌, ◌/◌, ◌%◌, ◌^◌, ◌<◌, ◌≤◌, ◌==◌, Bool, true, false, if◌then◌else◌}
+use Rattle.std.proofs.Common.{List, [], ◌∷◌, ◌++◌, length, Some, codes}
+use Rattle.std.proofs.Common.{inl, sym, refl, ap, ◌∙◌, arith, lit≤, append_assoc}
 use Rattle.std.specs.Fmt.{digits, digits_onto, digit_glyph}
 use Rattle.std.specs.Int.Digits.{number_from_digits}
 use Rattle.std.specs.Net.Grammar.{IsGroup, IsGroupsAfter}
 use Rattle.std.proofs.lemmas.Fmt.{digits_is_IsNumeral}
 use Rattle.std.proofs.lemmas.Nat.{shr-shr, shr_below}
-use Rattle.mesh_text.specs.declared.memory.Memory.{Memory}
-use Rattle.mesh_net.specs.declared.address.IpAddr.{IpAddr}
 use Rattle.mesh_net.specs.declared.address.IpAddr.TheVariants.{V4, V6}
 use Rattle.mesh_net.specs.Address.{ip_of}
 use Rattle.mesh_net.specs.Written.{group_at, hex_text, ip_text, lower_groups}
@@ -107,11 +107,6 @@ joined n fits =
 
 pub v6_back : (n : ℕ) → n < 2 ^ 128 → ip_of (ip_text (V6 n)) ≡ Some (V6 n)
 v6_back n fits = reads _ _ (groups_below n 8, inl (all_groups n, refl), joined n fits)
-
--- a text that is read back, where there was memory for it
-pub back_if_ok : (r : Result (List ℕ) Memory) (text : List ℕ) (ip : IpAddr) → IfOk r (λ t. t ≡ text) → ip_of text ≡ Some ip → IfOk r (λ t. ip_of t ≡ Some ip)
-back_if_ok (Ok t) text ip same back = ap ip_of same ∙ back
-back_if_ok (Err e) text ip same back = same
 
 -- the next of the lower groups
 next_group : (n left : ℕ) (text : List ℕ) → 0 < left

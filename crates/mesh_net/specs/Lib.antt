@@ -1,4 +1,5 @@
 pub mod Address
 pub mod Block
-pub mod Network
+pub mod Cidr
 pub mod Written
+pub use Rattle.mesh_text.specs.Number

@@ -1,8 +1,9 @@
+// IP addresses: their values, and the texts that spell them.
 ghost use Rattle.std.specs.Prelude.{◌≡◌, ℕ, ◌+◌, ◌*◌, IfSome, Some};
 ghost use Rattle.std.specs.Int.Digits.{number_from_digits};
 ghost use Rattle.std.specs.Net.Addr.{ipv4_octets, ipv6_segments};
 ghost use Rattle.mesh_net.specs.declared.address.IpAddr.{IpAddr};
-ghost use Rattle.mesh_net.specs.Address.{ip_of, Spells};
+ghost use Rattle.mesh_net.specs.Address.{ip_of, width, Spells};
 
 use std::net;
 
@@ -14,8 +15,6 @@ pub enum IpAddr {
 }
 
 impl IpAddr {
-    ghost use Rattle.mesh_net.specs.Network.{width};
-
     /// The bits of the family: 32 or 128.
     pub fn width(&self) -> u16
         ensures { result ≡ width self.now }

@@ -1,3 +1,4 @@
+// The texts of address blocks.
 ghost use Rattle.std.specs.Prelude.{◌≡◌, IfSome, Some};
 ghost use Rattle.mesh_net.specs.declared.cidr.Cidr.{Cidr};
 ghost use Rattle.mesh_net.specs.Block.{block_of, cut_block, whole_block, SpellsBlock};

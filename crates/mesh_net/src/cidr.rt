@@ -1,5 +1,6 @@
+// Address blocks, and which addresses one holds.
 ghost use Rattle.std.specs.Prelude.{◌≡◌, ◌/◌, ◌^◌, ◌≤◌, nat_le, true};
-ghost use Rattle.mesh_net.specs.Network.{in_network, width};
+ghost use Rattle.mesh_net.specs.Address.{width};
 
 use crate::IpAddr;
 
@@ -13,7 +14,7 @@ pub struct Cidr {
 }
 
 impl Cidr {
-    ghost use Rattle.mesh_net.specs.Block.{block_with};
+    ghost use Rattle.mesh_net.specs.Cidr.{block_with, in_network};
 
     /// The block of `addr` and `len`. None where `len` is more than the 32 or 128 bits of the family.
     pub fn new(addr: IpAddr, len: u16) -> Option<Cidr>

@@ -11,6 +11,3 @@ pub use address::{IpAddr, parse_ip};
 pub use block::parse_cidr;
 pub use cidr::Cidr;
 pub use written::write_ip;
-
-#[cfg(test)]
-mod tests;

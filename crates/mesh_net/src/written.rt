@@ -1,3 +1,4 @@
+// Addresses written as text.
 ghost use Rattle.std.specs.Prelude.{◌≡◌, ◌<◌, IfOk, Some, string_bytes};
 ghost use Rattle.mesh_net.specs.declared.address.IpAddr.TheVariants.{V4, V6};
 ghost use Rattle.mesh_net.specs.Address.{ip_of};
@@ -30,16 +31,14 @@ fn dotted(alloc: Global, number: u32) -> Result<Text, Memory>
         (number / 0x100 % 256) as u8,
         (number % 256) as u8,
     );
-    let text = format!(in alloc; "{ip}")?;
-    Text::of(alloc, text.as_str())
+    Ok(Text::from_string(format!(in alloc; "{ip}")?))
 }
 
 fn colon_hex(alloc: Global, number: u128) -> Result<Text, Memory>
     ensures text { IfOk result (λ t. t ≡ ip_text (V6 number)) }
     ensures read_back { IfOk result (λ t. ip_of t ≡ Some (V6 number)) }
 {
-    let text = eight_groups(alloc, number)?;
-    Text::of(alloc, text.as_str())
+    Ok(Text::from_string(eight_groups(alloc, number)?))
 }
 
 fn eight_groups(alloc: Global, number: u128) -> Result<String, AllocError>

@@ -1,5 +1,6 @@
 use Rattle.std.proofs.Common.{ap, sym, ◌∙◌}
-use Rattle.mesh_net.specs.Block.{block_with, whole_block}
+use Rattle.mesh_net.specs.Block.{whole_block}
+use Rattle.mesh_net.specs.Cidr.{block_with}
 use Rattle.mesh_net.proofs.block.whole.Goals as goal
 
 pub returns-in-Some : goal.returns-in-Some

@@ -1,6 +1,11 @@
-use Rattle.std.proofs.Common.{rules}
-use Rattle.mesh_net.proofs.WrittenLemmas.{back_if_ok, v6_back}
+use Rattle.std.proofs.Common.{◌≡◌, ap, ◌∙◌, rules}
+use Rattle.mesh_net.specs.declared.address.IpAddr.TheVariants.{V6}
+use Rattle.mesh_net.specs.Address.{ip_of}
+use Rattle.mesh_net.specs.Written.{ip_text}
+use Rattle.mesh_net.proofs.WrittenLemmas.{v6_back}
 use Rattle.mesh_net.proofs.written.colon_hex.Goals as goal
 
 pub returns-clause-read_back : goal.returns-clause-read_back
-returns-clause-read_back c = back_if_ok _ _ _ (search rules) (v6_back c.args.number c.ranges.number.fits)
+returns-clause-read_back c =
+    let text : c.from_string.result ≡ ip_text (V6 c.args.number) = search rules in
+    ap ip_of text ∙ v6_back c.args.number c.ranges.number.fits

@@ -5,7 +5,7 @@ use Rattle.std.proofs.lemmas.List.{take_rest}
 use Rattle.std.proofs.KnownBytes.{Appends-trans}
 use Rattle.std.specs.Prelude.{Option}
 use Rattle.std.specs.Io.KnownBytes.{Appends}
-use Rattle.mesh_edge.specs.Progress.{NoFewer}
+use Rattle.mesh_edge.specs.Sink.{NoFewer}
 
 -- the first m bytes were taken, and then n of the rest
 pub written_more : (a b c : Option (List ℕ)) (xs : List ℕ) (m n : ℕ) → Appends a b (take m xs)

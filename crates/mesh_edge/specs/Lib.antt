@@ -1,5 +1,7 @@
-pub mod Causes
+pub mod Clean
+pub mod Faults
 pub mod MemorySink
 pub mod MemorySource
-pub mod Progress
+pub mod Sink
+pub mod Source
 pub mod System

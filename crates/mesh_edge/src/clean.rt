@@ -1,9 +1,9 @@
 // A source and a sink that never fail.
-ghost use Rattle.std.specs.Prelude.{◌+◌, ◌++◌, ◌<◌, ◌≡◌, ◌≤◌, IfOk, IsOk, None, OnOk, Some, drop, length, min, take};
+ghost use Rattle.std.specs.Prelude.{◌+◌, ◌++◌, ◌<◌, ◌≡◌, ◌≤◌, IfOk, IsOk, OnOk, drop, length, min, take};
 ghost use Rattle.std.specs.Io.{ReadsAtMost};
-ghost use Rattle.std.specs.Io.KnownBytes.{Keeps, ReadConsumes, WriteAppends};
-ghost use Rattle.mesh_edge.specs.Causes.{HasCause};
-ghost use Rattle.mesh_edge.specs.Progress.{AllFlushed, NoFewer};
+ghost use Rattle.mesh_edge.specs.Clean.{known_sink, known_source};
+ghost use Rattle.mesh_edge.specs.Sink.{AddsNone, FlushesOnce, IsFlushed, KeepsFlushed, WriteAdds, WriteHasCause, WritesAtMost};
+ghost use Rattle.mesh_edge.specs.Source.{ReadHasCause, ReadTakes};
 
 use crate::copy::copy_front;
 use crate::{Failed, Sink, Source};
@@ -37,18 +37,14 @@ impl CleanSource {
 }
 
 impl Source for CleanSource {
-    ghost left = { λ s. Some s };
-
-    ghost faults = { λ _. 0 };
-
-    ghost reads = { λ _. 0 };
+    ghost known = { known_source };
 
     fn read(&mut self, buf: &mut [u8]) -> Result<usize, Failed>
         requires { 0 < length buf.old }
         ensures bound { ReadsAtMost result buf.new }
-        ensures bytes { ReadConsumes (Some self.old) (Some self.new) result buf.new }
-        ensures cause { HasCause 0 0 result }
-        ensures turn { 0 ≤ 0 + 1 }
+        ensures bytes { ReadTakes (known_source self.old) (known_source self.new) result buf.new }
+        ensures cause { ReadHasCause (known_source self.old) (known_source self.new) result }
+        ensures turn { (known_source self.new).reads ≤ (known_source self.old).reads + 1 }
         ensures answer { result ≡ Ok (min (length buf.old) (length self.old)) }
         ensures after { IfOk result (λ n. self.new ≡ drop n self.old) }
         ensures filled { IfOk result (λ n. buf.new ≡ take n self.old ++ drop n buf.old) }
@@ -73,32 +69,26 @@ impl CleanSink {
 }
 
 impl Sink for CleanSink {
-    ghost taken = { λ _. None };
-
-    ghost flushed = { λ _. None };
-
-    ghost faults = { λ _. 0 };
-
-    ghost writes = { λ _. 0 };
+    ghost known = { λ _. known_sink };
 
     fn write(&mut self, piece: &[u8]) -> Result<usize, Failed>
         requires { 0 < length piece.now }
         ensures bound { IfOk result (λ n. (0 < n) × (n ≤ length piece.now)) }
-        ensures bytes { WriteAppends None None result piece.now }
-        ensures flushed { NoFewer None None }
-        ensures cause { HasCause 0 0 result }
-        ensures turn { 0 ≤ 0 + 1 }
+        ensures bytes { WriteAdds known_sink known_sink result piece.now }
+        ensures flushed { KeepsFlushed known_sink known_sink }
+        ensures cause { WriteHasCause known_sink known_sink result }
+        ensures turn { WritesAtMost known_sink known_sink 1 }
         ensures answer { result ≡ Ok (length piece.now) }
     {
         Ok(piece.len())
     }
 
     fn flush(&mut self) -> Result<(), Failed>
-        ensures bytes { Keeps None None }
-        ensures all { OnOk result (AllFlushed None None) }
-        ensures flushed { NoFewer None None }
-        ensures cause { HasCause 0 0 result }
-        ensures turn { 0 ≤ 0 }
+        ensures bytes { AddsNone known_sink known_sink }
+        ensures all { OnOk result (IsFlushed known_sink) }
+        ensures flushed { KeepsFlushed known_sink known_sink }
+        ensures cause { WriteHasCause known_sink known_sink result }
+        ensures turn { FlushesOnce known_sink known_sink }
         ensures answer { IsOk result }
     {
         Ok(())

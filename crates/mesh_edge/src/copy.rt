@@ -1,3 +1,4 @@
+// Copies bytes from one place to another.
 ghost use Rattle.std.specs.Prelude.{◌++◌, ◌≡◌, ◌≤◌, drop, length, take};
 
 // Copies the first `count` bytes of `from` to the front of `to`.

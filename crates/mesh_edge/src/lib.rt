@@ -1,8 +1,8 @@
 //! Sources and sinks of bytes, each with a count of its faults.
 //!
-//! Whoever reads or writes through them learns that a fault which is answered has happened: the
-//! count rose. Where an object tells its bytes, `read_all` and `write_all` promise which of them
-//! were taken, after a fault and for want of memory too, and in how many calls.
+//! The count rises where a fault is answered, and stays where a call succeeds: no fault is made up,
+//! and none is passed over. Where an object tells its bytes, `read_all` and `write_all` promise which
+//! of them were taken, after a fault and for want of memory too, and in how many calls.
 #![tactic(auto)]
 
 mod clean;
@@ -23,6 +23,3 @@ pub use sink::Sink;
 pub use source::Source;
 pub use system::{StdSink, StdSource};
 pub use transfer::{read_all, write_all};
-
-#[cfg(test)]
-mod tests;

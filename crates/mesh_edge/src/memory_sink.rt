@@ -1,9 +1,7 @@
-// A sink in memory, for tests of what writes through it.
-ghost use Rattle.std.specs.Prelude.{◌+◌, ◌<◌, ◌≡◌, ◌≤◌, IfOk, OnOk, Some, [], length};
-ghost use Rattle.std.specs.Io.KnownBytes.{Keeps, WriteAppends};
-ghost use Rattle.mesh_edge.specs.Causes.{HasCause};
-ghost use Rattle.mesh_edge.specs.MemorySink.{after_flush, after_write, flush_answer, write_answer};
-ghost use Rattle.mesh_edge.specs.Progress.{AllFlushed, NoFewer};
+// A sink in memory, with writes and flushes that fail, to try out what writes through it.
+ghost use Rattle.std.specs.Prelude.{◌<◌, ◌≡◌, ◌≤◌, IfOk, OnOk, [], length};
+ghost use Rattle.mesh_edge.specs.MemorySink.{after_flush, after_write, flush_answer, known_sink, write_answer};
+ghost use Rattle.mesh_edge.specs.Sink.{AddsNone, FlushesOnce, IsFlushed, KeepsFlushed, WriteAdds, WriteHasCause, WritesAtMost};
 
 use crate::{Failed, Sink};
 use std::alloc::{AllocError, Global};
@@ -19,14 +17,15 @@ pub struct MemorySink {
     most: usize,
     flush_fails: bool,
     number: u64,
+    flushes: u64,
     faults: u64,
 }
 
 impl Model for MemorySink {
     ghost use Rattle.std.specs.Prelude.{◌≤◌, length, vec_capacity};
-    ghost use Rattle.mesh_edge.specs.MemorySink.{SinkState};
+    ghost use Rattle.mesh_edge.specs.MemorySink.{MemorySinkState};
 
-    ghost Value = { SinkState };
+    ghost Value = { MemorySinkState };
 
     ghost view = { λ s. record {
       taken = s.bytes.items;
@@ -36,6 +35,7 @@ impl Model for MemorySink {
       most = s.most;
       flush_fails = s.flush_fails;
       number = s.number;
+      flushes = s.flushes;
       faults = s.faults;
     } };
 
@@ -66,6 +66,7 @@ impl MemorySink {
           most = most;
           flush_fails = flush_fails;
           number = 0;
+          flushes = 0;
           faults = 0;
         }) }
     {
@@ -77,6 +78,7 @@ impl MemorySink {
             most,
             flush_fails,
             number: 0,
+            flushes: 0,
             faults: 0,
         })
     }
@@ -97,21 +99,15 @@ impl MemorySink {
 }
 
 impl Sink for MemorySink {
-    ghost taken = { λ s. Some s.taken };
-
-    ghost flushed = { λ s. Some s.flushed };
-
-    ghost faults = { λ s. s.faults };
-
-    ghost writes = { λ s. s.number };
+    ghost known = { known_sink };
 
     fn write(&mut self, piece: &[u8]) -> Result<usize, Failed>
         requires { 0 < length piece.now }
         ensures bound { IfOk result (λ n. (0 < n) × (n ≤ length piece.now)) }
-        ensures bytes { WriteAppends (Some self.old.taken) (Some self.new.taken) result piece.now }
-        ensures flushed { NoFewer (Some self.old.flushed) (Some self.new.flushed) }
-        ensures cause { HasCause self.old.faults self.new.faults result }
-        ensures turn { self.new.number ≤ self.old.number + 1 }
+        ensures bytes { WriteAdds (known_sink self.old) (known_sink self.new) result piece.now }
+        ensures flushed { KeepsFlushed (known_sink self.old) (known_sink self.new) }
+        ensures cause { WriteHasCause (known_sink self.old) (known_sink self.new) result }
+        ensures turn { WritesAtMost (known_sink self.old) (known_sink self.new) 1 }
         ensures answer { result ≡ write_answer self.old piece.now }
         ensures after { self.new ≡ after_write self.old piece.now }
     {
@@ -130,14 +126,15 @@ impl Sink for MemorySink {
     }
 
     fn flush(&mut self) -> Result<(), Failed>
-        ensures bytes { Keeps (Some self.old.taken) (Some self.new.taken) }
-        ensures all { OnOk result (AllFlushed (Some self.new.taken) (Some self.new.flushed)) }
-        ensures flushed { NoFewer (Some self.old.flushed) (Some self.new.flushed) }
-        ensures cause { HasCause self.old.faults self.new.faults result }
-        ensures turn { self.new.number ≤ self.old.number }
+        ensures bytes { AddsNone (known_sink self.old) (known_sink self.new) }
+        ensures all { OnOk result (IsFlushed (known_sink self.new)) }
+        ensures flushed { KeepsFlushed (known_sink self.old) (known_sink self.new) }
+        ensures cause { WriteHasCause (known_sink self.old) (known_sink self.new) result }
+        ensures turn { FlushesOnce (known_sink self.old) (known_sink self.new) }
         ensures answer { result ≡ flush_answer self.old }
         ensures after { self.new ≡ after_flush self.old }
     {
+        self.flushes = self.flushes.saturating_add(1);
         if self.flush_fails {
             self.faults = self.faults.saturating_add(1);
             return Err(Failed);

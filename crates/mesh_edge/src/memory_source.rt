@@ -1,9 +1,8 @@
-// A source in memory, for tests of what reads through it.
-ghost use Rattle.std.specs.Prelude.{◌+◌, ◌++◌, ◌<◌, ◌≡◌, ◌≤◌, IfOk, Some, drop, length, take};
+// A source in memory, with reads that fail, to try out what reads through it.
+ghost use Rattle.std.specs.Prelude.{◌+◌, ◌++◌, ◌<◌, ◌≡◌, ◌≤◌, IfOk, drop, length, take};
 ghost use Rattle.std.specs.Io.{ReadsAtMost};
-ghost use Rattle.std.specs.Io.KnownBytes.{ReadConsumes};
-ghost use Rattle.mesh_edge.specs.Causes.{HasCause};
-ghost use Rattle.mesh_edge.specs.MemorySource.{after_read, read_answer};
+ghost use Rattle.mesh_edge.specs.MemorySource.{after_read, known_source, read_answer};
+ghost use Rattle.mesh_edge.specs.Source.{ReadHasCause, ReadTakes};
 
 use crate::copy::copy_front;
 use crate::{Failed, Source};
@@ -22,9 +21,9 @@ pub struct MemorySource {
 
 impl Model for MemorySource {
     ghost use Rattle.std.specs.Prelude.{◌≤◌, drop, length};
-    ghost use Rattle.mesh_edge.specs.MemorySource.{SourceState};
+    ghost use Rattle.mesh_edge.specs.MemorySource.{MemorySourceState};
 
-    ghost Value = { SourceState };
+    ghost Value = { MemorySourceState };
 
     ghost view = { λ s. record {
       left = drop s.at s.bytes.items;
@@ -69,18 +68,14 @@ impl MemorySource {
 }
 
 impl Source for MemorySource {
-    ghost left = { λ s. Some s.left };
-
-    ghost faults = { λ s. s.faults };
-
-    ghost reads = { λ s. s.number };
+    ghost known = { known_source };
 
     fn read(&mut self, buf: &mut [u8]) -> Result<usize, Failed>
         requires { 0 < length buf.old }
         ensures bound { ReadsAtMost result buf.new }
-        ensures bytes { ReadConsumes (Some self.old.left) (Some self.new.left) result buf.new }
-        ensures cause { HasCause self.old.faults self.new.faults result }
-        ensures turn { self.new.number ≤ self.old.number + 1 }
+        ensures bytes { ReadTakes (known_source self.old) (known_source self.new) result buf.new }
+        ensures cause { ReadHasCause (known_source self.old) (known_source self.new) result }
+        ensures turn { (known_source self.new).reads ≤ (known_source self.old).reads + 1 }
         ensures answer { result ≡ read_answer self.old (length buf.old) }
         ensures after { self.new ≡ after_read self.old (length buf.old) }
         ensures filled { IfOk result (λ n. buf.new ≡ take n self.old.left ++ drop n buf.old) }

@@ -1,9 +1,9 @@
 // std's readers and writers. What they do outside the process is trusted: no contract tells it.
-ghost use Rattle.std.specs.Prelude.{◌+◌, ◌<◌, ◌≡◌, ◌≤◌, IfOk, None, OnErr, OnOk, length};
+ghost use Rattle.std.specs.Prelude.{◌+◌, ◌<◌, ◌≡◌, ◌≤◌, IfOk, OnErr, OnOk, length};
 ghost use Rattle.std.specs.Io.{ReadsAtMost};
-ghost use Rattle.std.specs.Io.KnownBytes.{Keeps, ReadConsumes, WriteAppends};
-ghost use Rattle.mesh_edge.specs.Causes.{HasCause, next_count};
-ghost use Rattle.mesh_edge.specs.Progress.{AllFlushed, NoFewer};
+ghost use Rattle.mesh_edge.specs.Faults.{next_count};
+ghost use Rattle.mesh_edge.specs.Sink.{AddsNone, FlushesOnce, IsFlushed, KeepsFlushed, WriteAdds, WriteHasCause, WritesAtMost};
+ghost use Rattle.mesh_edge.specs.Source.{ReadHasCause, ReadTakes};
 
 use crate::{Failed, Sink, Source};
 use std::io::{Read, Write};
@@ -28,21 +28,18 @@ impl<R> StdSource<R> {
 }
 
 impl<R: Read> Source for StdSource<R> {
-    ghost use Rattle.mesh_edge.specs.System.{read_faults_of, reader_of};
+    ghost use Rattle.mesh_edge.specs.System.{known_source, read_faults_of};
 
-    ghost left = { λ s. R.remaining (reader_of s) };
-
-    ghost faults = { read_faults_of };
-
-    ghost reads = { λ _. 0 };
+    ghost known = { known_source R.remaining };
 
     fn read(&mut self, buf: &mut [u8]) -> Result<usize, Failed>
         ensures bound { ReadsAtMost result buf.new }
-        ensures bytes { ReadConsumes (R.remaining (reader_of self.old)) (R.remaining (reader_of self.new))
+        ensures bytes { ReadTakes (known_source R.remaining self.old) (known_source R.remaining self.new)
             result buf.new }
-        ensures cause { HasCause (read_faults_of self.old) (read_faults_of self.new) result }
-        ensures turn { 0 ≤ 0 + 1 }
-        ensures read { OnOk result (read_faults_of self.new ≡ read_faults_of self.old) }
+        ensures cause { ReadHasCause (known_source R.remaining self.old) (known_source R.remaining self.new)
+            result }
+        ensures turn { (known_source R.remaining self.new).reads
+            ≤ (known_source R.remaining self.old).reads + 1 }
         ensures failed { OnErr result (read_faults_of self.new ≡ next_count (read_faults_of self.old)) }
     {
         let Ok(count) = self.reader.read(buf) else {
@@ -74,24 +71,18 @@ impl<W> StdSink<W> {
 }
 
 impl<W: Write> Sink for StdSink<W> {
-    ghost use Rattle.mesh_edge.specs.System.{write_faults_of, writer_of};
+    ghost use Rattle.mesh_edge.specs.System.{known_sink, write_faults_of};
 
-    ghost taken = { λ s. W.contents (writer_of s) };
-
-    ghost flushed = { λ _. None };
-
-    ghost faults = { write_faults_of };
-
-    ghost writes = { λ _. 0 };
+    ghost known = { known_sink W.contents };
 
     fn write(&mut self, piece: &[u8]) -> Result<usize, Failed>
         ensures bound { IfOk result (λ n. (0 < n) × (n ≤ length piece.now)) }
-        ensures bytes { WriteAppends (W.contents (writer_of self.old)) (W.contents (writer_of self.new))
+        ensures bytes { WriteAdds (known_sink W.contents self.old) (known_sink W.contents self.new)
             result piece.now }
-        ensures flushed { NoFewer None None }
-        ensures cause { HasCause (write_faults_of self.old) (write_faults_of self.new) result }
-        ensures turn { 0 ≤ 0 + 1 }
-        ensures written { OnOk result (write_faults_of self.new ≡ write_faults_of self.old) }
+        ensures flushed { KeepsFlushed (known_sink W.contents self.old) (known_sink W.contents self.new) }
+        ensures cause { WriteHasCause (known_sink W.contents self.old) (known_sink W.contents self.new)
+            result }
+        ensures turn { WritesAtMost (known_sink W.contents self.old) (known_sink W.contents self.new) 1 }
         ensures failed { OnErr result (write_faults_of self.new ≡ next_count (write_faults_of self.old)) }
     {
         match self.writer.write(piece) {
@@ -104,12 +95,12 @@ impl<W: Write> Sink for StdSink<W> {
     }
 
     fn flush(&mut self) -> Result<(), Failed>
-        ensures bytes { Keeps (W.contents (writer_of self.old)) (W.contents (writer_of self.new)) }
-        ensures all { OnOk result (AllFlushed (W.contents (writer_of self.new)) None) }
-        ensures flushed { NoFewer None None }
-        ensures cause { HasCause (write_faults_of self.old) (write_faults_of self.new) result }
-        ensures turn { 0 ≤ 0 }
-        ensures done { OnOk result (write_faults_of self.new ≡ write_faults_of self.old) }
+        ensures bytes { AddsNone (known_sink W.contents self.old) (known_sink W.contents self.new) }
+        ensures all { OnOk result (IsFlushed (known_sink W.contents self.new)) }
+        ensures flushed { KeepsFlushed (known_sink W.contents self.old) (known_sink W.contents self.new) }
+        ensures cause { WriteHasCause (known_sink W.contents self.old) (known_sink W.contents self.new)
+            result }
+        ensures turn { FlushesOnce (known_sink W.contents self.old) (known_sink W.contents self.new) }
         ensures failed { OnErr result (write_faults_of self.new ≡ next_count (write_faults_of self.old)) }
     {
         let Ok(()) = self.writer.flush() else {

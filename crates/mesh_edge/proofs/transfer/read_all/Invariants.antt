@@ -1,14 +1,14 @@
--- The bytes read are those taken, in at most as many reads, and at most one is too many.
+-- The bytes read are those taken, in at most as many reads, none of which failed, and at most one byte is too many.
 use Rattle.std.proofs.Common.{length, ◌+◌, ◌-◌, ◌≤◌}
-use Rattle.std.specs.Io.KnownBytes.{Consumes}
+use Rattle.mesh_edge.specs.Source.{NoReadFault, Takes}
 use Rattle.mesh_edge.proofs.transfer.read_all.Given as goal
 
 abbrev pub invariant-loop-chunk : goal.invariant-loop-chunk
-invariant-loop-chunk g l = record {
+invariant-loop-chunk g l = let old = g.S.Source.known l.fn.src in let new = g.S.Source.known l.src in record {
   short : length l.bytes.items ≤ l.limit + 1;
-  later : g.S.Source.faults l.fn.src ≤ g.S.Source.faults l.src;
-  taken : Consumes (g.S.Source.left l.fn.src) (g.S.Source.left l.src) l.bytes.items;
-  turns : g.S.Source.reads l.src ≤ g.S.Source.reads l.fn.src + length l.bytes.items;
+  faultless : NoReadFault old new;
+  taken : Takes old new l.bytes.items;
+  turns : new.reads ≤ old.reads + length l.bytes.items;
 }
 
 abbrev pub decreases-loop-chunk : goal.decreases-loop-chunk

@@ -2,7 +2,7 @@
 use Rattle.std.proofs.Common.{◌≤◌, ◌+◌, ◌-◌, length, sym, ap, ◌∙◌, arith}
 use Rattle.std.proofs.lemmas.Grind.{common_steps}
 use Rattle.std.proofs.lemmas.List.{drop_all}
-use Rattle.mesh_edge.specs.MemorySource.{SourceState}
+use Rattle.mesh_edge.specs.MemorySource.{MemorySourceState}
 use Rattle.mesh_edge.proofs.Steps.{read_next}
 use Rattle.mesh_edge.proofs.memory_source.MemorySourceSource.read.Goals as goal
 
@@ -12,6 +12,6 @@ returns-clause-bytes c =
     let n = c.min-count.result in
     let fits : n ≤ length xs - c.self.inside.at = grind (arith, common_steps) in
     let filled = rw c.deref-2.ensures.value at c.copy_front.ensures in (
-      sym (ap (λ (s : SourceState). s.left) c.self.view_is) ∙ read_next xs _ _ c.self.inside.at n fits filled,
+      sym (ap (λ (s : MemorySourceState). s.left) c.self.view_is) ∙ read_next xs _ _ c.self.inside.at n fits filled,
       λ z _. let all : length xs ≤ c.self.inside.at + n = grind (arith, common_steps) in drop_all _ _ all,
     )

@@ -1,0 +1,4 @@
+pub mod FoldLemmas
+pub mod FullLemmas
+pub mod JoinedLemmas
+pub mod JudgeLemmas

@@ -1,0 +1,5 @@
+pub mod Full
+pub mod Joined
+pub mod Judge
+pub mod Size
+pub mod Tree

@@ -15,7 +15,8 @@ shown_high b h = grind (arith, nat_tests)
 one_more : (low n : ℕ) (bs : List ℕ) → 128 ≤ low → shown_key bs ≡ bs → shown_key ((low + n) ∷ bs) ≡ (low + n) ∷ bs
 one_more low n bs h e = ap₂ (λ (x y : List ℕ). x ++ y) (shown_high (low + n) (omega arith)) e
 
-rows : (two three : Bool) (x y z : List ℕ) → shown_key x ≡ x → shown_key y ≡ y → shown_key z ≡ z → shown_key (cond two x (cond three y z)) ≡ cond two x (cond three y z)
+rows : (two three : Bool) (x y z : List ℕ) → shown_key x ≡ x → shown_key y ≡ y → shown_key z ≡ z
+    → shown_key (cond two x (cond three y z)) ≡ cond two x (cond three y z)
 rows true three x y z d e f = d
 rows false true x y z d e f = e
 rows false false x y z d e f = f

@@ -10,6 +10,7 @@ use Rattle.mesh_doc.specs.declared.fault.DocError.TheVariants as error
 use Rattle.mesh_doc.specs.declared.fault.Fault.{Fault}
 use Rattle.mesh_doc.specs.declared.reason.Reason.{Reason}
 
+-- what is wrong with a value, as its parts have it
 pub data Faults : Type 0 where
   none : Faults
   single : Fault → Faults
@@ -18,22 +19,24 @@ pub data Faults : Type 0 where
   -- those of the second are there only where the first has none: what is behind a wrong kind is not read
   hiding : Faults → Faults → Faults
 
--- the list of all of them
+-- the second list, unless the first has a fault
 abbrev pub shown_behind : List Fault → List Fault → List Fault
 shown_behind [] gs = gs
 shown_behind (f ∷ fs) gs = f ∷ fs
 
+-- the list of all of them
 abbrev pub all_of : Faults → List Fault
 all_of none = []
 all_of (single f) = f ∷ []
 all_of (joined fs gs) = all_of fs ++ all_of gs
 all_of (hiding fs gs) = shown_behind (all_of fs) (all_of gs)
 
--- the first of them, found along the parts (`reading_order` has the law that this is the first of the list)
+-- the earlier of two, where there is one
 abbrev pub or_else : Option Fault → Option Fault → Option Fault
 or_else None later = later
 or_else (Some f) later = Some f
 
+-- the first of them, found along the parts (`reading_order` has the law that this is the first of the list)
 abbrev pub first : Faults → Option Fault
 first none = None
 first (single f) = Some f
@@ -54,12 +57,15 @@ Reads (Err e) fs value = Refuses e fs
 
 -- ---- how a check is put together
 
+-- what is wrong with a value that stands at a place
 abbrev pub Check : Type 0
 Check = Data → Steps → Faults
 
+-- one fault, at the place itself
 abbrev pub fault : Reason → Steps → Faults
 fault reason at = single (record { place = at; reason = reason })
 
+-- none where the test holds
 abbrev pub unless : Bool → Reason → Steps → Faults
 unless true reason at = none
 unless false reason at = fault reason at

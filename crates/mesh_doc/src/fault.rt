@@ -1,3 +1,4 @@
+//! What a reader answers where it has no value.
 ghost use Rattle.std.specs.Prelude.{◌≡◌};
 ghost use Rattle.mesh_doc.specs.Faults.{Refuses, fault};
 

@@ -1,10 +1,11 @@
+//! The kinds of JSON values (RFC 8259 section 3): whether a value is of one, and what it is.
 ghost use Rattle.std.specs.Prelude.{◌≡◌, true, OnOk};
 ghost use Rattle.serde_json.specs.Events.{items_len};
 ghost use Rattle.serde_json.specs.View.{view, items_view};
 ghost use Rattle.mesh_doc.specs.Faults.{Reads};
 ghost use Rattle.mesh_doc.specs.Kinds.{is_object, object_faults, list_faults, length_in, text_faults, text_in, number_faults, number_in, truth_faults, truth_in};
 
-use crate::{AnyNumber, AnyText, AnyTruth, DocError, Form, Place, Reason, Spot, refuse};
+use crate::{DocError, Form, Place, Reason, Spot, refuse};
 use mesh_text::Text;
 use serde_json::Value;
 use std::alloc::Global;
@@ -69,4 +70,61 @@ pub fn truth(alloc: Global, v: &Value, place: &Place) -> Result<bool, DocError>
     ensures { Reads result (truth_faults (view v.now) place.now) (truth_in (view v.now)) }
 {
     AnyTruth::read(alloc, v, &Spot::of(place))
+}
+
+/// Any text.
+pub struct AnyText;
+
+impl Form for AnyText {
+    type Out = Text;
+
+    ghost faults = { text_faults };
+
+    ghost value = { text_in };
+
+    #[tactic(auto, unfolding(crate::specs::Kinds::text_faults, crate::specs::Kinds::text_in))]
+    fn read(alloc: Global, v: &Value, at: &Spot) -> Result<Text, DocError> {
+        match v {
+            Value::String(text) => Ok(Text::of(alloc, text.as_str())?),
+            _ => Err(at.refuse(alloc, Reason::WrongType)),
+        }
+    }
+}
+
+/// Any whole number from 0 to 2^64 - 1.
+pub struct AnyNumber;
+
+impl Form for AnyNumber {
+    type Out = u64;
+
+    ghost faults = { number_faults };
+
+    ghost value = { number_in };
+
+    #[tactic(auto, unfolding(crate::specs::Kinds::number_faults, crate::specs::Kinds::number_in))]
+    fn read(alloc: Global, v: &Value, at: &Spot) -> Result<u64, DocError> {
+        match v.as_u64() {
+            Some(number) => Ok(number),
+            None => Err(at.refuse(alloc, Reason::WrongType)),
+        }
+    }
+}
+
+/// `true` or `false`.
+pub struct AnyTruth;
+
+impl Form for AnyTruth {
+    type Out = bool;
+
+    ghost faults = { truth_faults };
+
+    ghost value = { truth_in };
+
+    #[tactic(auto, unfolding(crate::specs::Kinds::truth_faults, crate::specs::Kinds::truth_in))]
+    fn read(alloc: Global, v: &Value, at: &Spot) -> Result<bool, DocError> {
+        match v {
+            Value::Bool(truth) => Ok(*truth),
+            _ => Err(at.refuse(alloc, Reason::WrongType)),
+        }
+    }
 }

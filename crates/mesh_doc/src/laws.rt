@@ -1,3 +1,4 @@
+//! The law on which each reader rests.
 ghost use Rattle.mesh_doc.specs.Laws.{FirstOfJoined, FirstOfAll, NoneOfEmpty};
 
 /// The law on which each reader rests: the first fault that is met along the parts of a value is the first of the

@@ -5,7 +5,7 @@
 
 mod fault;
 mod fields;
-mod forms;
+mod form;
 mod kinds;
 mod known;
 mod laws;
@@ -15,22 +15,23 @@ mod place;
 mod printed;
 mod reason;
 mod spot;
-#[cfg(test)]
-mod tests;
+mod tested;
 mod turns;
 
 pub use fault::{DocError, Fault, refuse};
-pub use fields::{field, missing, written};
-pub use forms::{
-    AnyNumber, AnyText, AnyTruth, Form, optional, optional_written, required, required_written,
+pub use fields::{
+    empty_object, field, missing, optional, optional_written, or_empty, required, required_written,
+    written,
 };
-pub use kinds::{list, number, object, text, truth};
+pub use form::Form;
+pub use kinds::{AnyNumber, AnyText, AnyTruth, list, number, object, text, truth};
 pub use known::only_fields;
 pub use laws::reading_order;
 pub use lists::{entries, listed, listed_written};
 pub use maps::{Entry, members};
 pub use place::{Place, Step};
-pub use printed::place_text;
+pub use printed::{fault_text, place_text};
 pub use reason::Reason;
 pub use spot::Spot;
+pub use tested::{Tested, TextTest};
 pub use turns::{InTurn, entries_in_turn, listed_in_turn};

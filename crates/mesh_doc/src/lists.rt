@@ -1,16 +1,17 @@
-ghost use Rattle.std.specs.Prelude.{◌<◌, ◌^◌, length};
-ghost use Rattle.serde_json.specs.View.{view, items_view};
+//! Lists of entries of one form.
+ghost use Rattle.serde_json.specs.View.{view};
 ghost use Rattle.mesh_doc.specs.Faults.{Reads};
 ghost use Rattle.mesh_doc.specs.Lists as lists;
 
-use crate::{DocError, Form, Reason, Spot, field, written};
+use crate::{DocError, Form, InTurn, Spot, entries_in_turn, field, written};
 use mesh_text::List;
 use serde_json::Value;
 use std::alloc::Global;
+use std::marker::PhantomData;
 
 /// The entries of the list `v` at `at`. WrongType where it is no list, TooMany where it has more than `most`
 /// entries, and else the first fault of its entries.
-#[tactic(auto, unfolding(crate::specs::Lists::list_of, crate::specs::Lists::list_in, crate::specs::Kinds::list_faults))]
+#[tactic(auto, unfolding(crate::specs::Lists::list_of))]
 pub fn entries<F: Form>(
     alloc: Global,
     v: &Value,
@@ -21,9 +22,27 @@ pub fn entries<F: Form>(
         (lists.list_of most F.faults (view v.now) at.now)
         (lists.list_in F.value (view v.now)) }
 {
-    match v {
-        Value::Array(items) => short_list::<F>(alloc, items.as_slice(), most, at),
-        _ => Err(at.refuse(alloc, Reason::WrongType)),
+    entries_in_turn::<Alone<F>>(alloc, (), v, most, at)
+}
+
+// An entry that leaves nothing for the later ones.
+struct Alone<F> {
+    form: PhantomData<F>,
+}
+
+impl<F: Form> InTurn for Alone<F> {
+    type Out = F::Out;
+
+    type Seen = ();
+
+    ghost faults = { λ _. F.faults };
+
+    ghost value = { F.value };
+
+    ghost after = { λ seen _. seen };
+
+    fn read(alloc: Global, _seen: &mut (), v: &Value, at: &Spot) -> Result<F::Out, DocError> {
+        F::read(alloc, v, at)
     }
 }
 
@@ -64,34 +83,4 @@ pub fn listed_written<F: Form>(
         Some(found) => entries::<F>(alloc, found, most, &Spot::key(at, name)),
         None => Ok(List::new(alloc)),
     }
-}
-
-#[tactic(auto, using(crate::proofs::Counts::count_of_items))]
-fn short_list<F: Form>(
-    alloc: Global,
-    items: &[Value],
-    most: u32,
-    at: &Spot,
-) -> Result<List<F::Out>, DocError>
-    ensures { Reads result
-        (lists.entries_faults most F.faults (items_view items.now) at.now)
-        (lists.each_in F.value (items_view items.now)) }
-{
-    if items.len() > most as usize {
-        return Err(at.refuse(alloc, Reason::TooMany));
-    }
-    each::<F>(alloc, items, at)
-}
-
-fn each<F: Form>(alloc: Global, items: &[Value], at: &Spot) -> Result<List<F::Out>, DocError>
-    requires { length items.now < 2 ^ 32 }
-    ensures { Reads result
-        (lists.each_faults F.faults 0 (items_view items.now) at.now)
-        (lists.each_in F.value (items_view items.now)) }
-{
-    let mut all = List::with_room(alloc, items.len())?;
-    for (i, v) in items.iter().enumerate() {
-        all.push(F::read(alloc, v, &Spot::index(at, i as u32))?)?;
-    }
-    Ok(all)
 }

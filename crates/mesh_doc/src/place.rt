@@ -1,3 +1,4 @@
+//! Where a value stands in a document.
 ghost use Rattle.std.specs.Prelude.{◌≡◌, [], ◌∷◌, ◌++◌, IfOk};
 
 use mesh_text::{List, Memory, Text};

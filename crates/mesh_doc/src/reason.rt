@@ -1,5 +1,6 @@
+//! Why a value is refused.
 ghost use Rattle.std.specs.Prelude.{◌≡◌};
-ghost use Rattle.mesh_doc.specs.Reasons.{name_of};
+ghost use Rattle.mesh_doc.specs.Reason.{name_of};
 
 /// Why a value is refused.
 #[derive(Clone, Copy, Debug, PartialEq, Eq)]

@@ -1,3 +1,4 @@
+//! Where a value stands, told without memory.
 ghost use Rattle.std.specs.Prelude.{◌≡◌, IfOk};
 ghost use Rattle.mesh_doc.specs.Places.{at_key, at_index};
 ghost use Rattle.mesh_doc.specs.Faults.{Refuses, fault};
@@ -30,7 +31,7 @@ impl<'a> Model for Spot<'a> {
 
     ghost Value = { Steps };
 
-    ghost use Rattle.mesh_doc.specs.Spots.{steps};
+    ghost use Rattle.mesh_doc.specs.Spot.{steps};
 
     ghost view = { λ s. steps s.step };
 

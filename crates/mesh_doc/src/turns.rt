@@ -1,3 +1,4 @@
+//! Lists whose entries are read behind what the earlier ones left.
 ghost use Rattle.std.specs.Prelude.{◌<◌, ◌^◌, ◌≡◌, OnOk, length};
 ghost use Rattle.serde_json.specs.Data.{Data};
 ghost use Rattle.serde_json.specs.View.{items_view, view};

@@ -1,8 +1,10 @@
-use Rattle.std.proofs.Common.{◌≡◌}
+use Rattle.std.proofs.Common.{◌≡◌, map}
 use Rattle.serde_json.specs.View.{members_view}
 use Rattle.mesh_doc.specs.Faults.{first}
-use Rattle.mesh_doc.specs.Fields.{unknown_in}
+use Rattle.mesh_doc.specs.Known.{unknown_in}
 use Rattle.mesh_doc.proofs.known.only_known.Given as goal
 
 abbrev pub invariant-loop-name : goal.invariant-loop-name
-invariant-loop-name l = first (unknown_in l.known (members_view l.members.entries) l.at) ≡ first (unknown_in l.known (members_view l.name-iterator) l.at)
+invariant-loop-name l =
+    first (unknown_in (map (λ n. n.now) l.known) (members_view l.members.entries) l.at)
+    ≡ first (unknown_in (map (λ n. n.now) l.known) (members_view l.name-iterator) l.at)

@@ -3,6 +3,7 @@ use Rattle.std.specs.Prelude.{ℕ, List, codes}
 use Rattle.mesh_doc.specs.declared.reason.Reason.{Reason}
 use Rattle.mesh_doc.specs.declared.reason.Reason.TheVariants as reason
 
+-- the word that a refusal ends with
 abbrev pub name_of : Reason → List ℕ
 name_of reason.NotAList = codes "NotAList"
 name_of reason.WrongKind = codes "WrongKind"

@@ -1,5 +1,12 @@
+pub mod AcceptedLemmas
+pub mod Listed
+pub mod PathLemmas
 pub mod PatternLemmas
-pub mod Slashes
+pub mod PeerNameLemmas
+pub mod PortRules
+pub mod PortVerdict
+pub mod SlashLemmas
 pub mod TemplateLemmas
 pub mod TokenLemmas
 pub mod UriLemmas
+pub mod WorkloadPorts

@@ -1,14 +1,18 @@
 -- The URI form of a template is one, and has the same pieces.
-use Rattle.std.proofs.Common.{◌≡◌, ℕ, ◌&&◌, ◌||◌, not, Bool, true, false, Bor, Some, None, append_assoc, List, [], ◌∷◌, ◌++◌, map, get_or, ap, sym, subst, ◌∙◌, refl, if◌then◌else◌, codes}
+use Rattle.std.proofs.Common.{◌≡◌, ℕ, ◌&&◌, ◌||◌, not, Bool, true, false, Bor, Some, None, append_assoc, List, [], ◌∷◌, ◌++◌, map}
+use Rattle.std.proofs.Common.{get_or, ap, sym, subst, ◌∙◌, refl, if◌then◌else◌, codes}
+use Rattle.std.proofs.lemmas.Bool.{and_from, and_parts, false_from_ne_true, or_right}
 use Rattle.std.proofs.lemmas.Bool.Decides.{Decides-eqb}
 use Rattle.std.proofs.lemmas.Slice.Eq.{bytes_eq-Decides}
 use Rattle.std.specs.List.{join_with_byte, list_all, list_any}
 use Rattle.std.specs.Str.{bytes_eq}
 use lib.Dec.{eqb}
-use Rattle.mesh_policy.proofs.Slashes.{both, and_true, or_second, is_false, SlashFree, slash_free, HasSegment, some_segment, split_join, split_plain, one_more, no_more}
+use Rattle.mesh_policy.proofs.SlashLemmas.{SlashFree, slash_free, HasSegment, some_segment, split_join, split_plain, one_more, no_more}
 use Rattle.std.proofs.lemmas.Str.Pattern.{IsSplitOnceResult}
 use Rattle.mesh_policy.proofs.TemplateLemmas.{piece_literal}
-use Rattle.mesh_policy.specs.Templates.{literal, has_slash, segments_of, piece_of, pieces_of, is_operator, is_plain, is_segment, any_is_last, is_form, is_template, is_uri, template_pieces, uri_pieces, uri_segment, uri_of}
+use Rattle.mesh_policy.specs.Template.{literal, has_slash, segments_of, piece_of, pieces_of, is_operator, is_plain, is_segment}
+use Rattle.mesh_policy.specs.Template.{any_is_last, is_form, is_template, is_uri, template_pieces, uri_pieces, uri_segment}
+use Rattle.mesh_policy.specs.Template.{uri_of}
 
 abbrev one : List ℕ
 one = codes "*"
@@ -39,12 +43,14 @@ alike_any = record { as_one = refl; as_any = refl; fits = refl; free = (λ h. re
 alike_plain : (s : List ℕ) → bytes_eq s braced_one ≡ false → bytes_eq s braced_any ≡ false → is_plain s ≡ true → Alike s
 alike_plain s e f plain =
     let itself : uri_segment s ≡ s = rw (e, f) refl in
-    let not_one : bytes_eq s one ≡ false = is_false (bytes_eq s one) (λ h. let k : true ≡ false = sym plain ∙ ap is_plain ((bytes_eq-Decides s one).0 h) in absurd cc) in
-    let not_any : bytes_eq s any ≡ false = is_false (bytes_eq s any) (λ h. let k : true ≡ false = sym plain ∙ ap is_plain ((bytes_eq-Decides s any).0 h) in absurd cc) in
+    let one_apart : bytes_eq s one ≡ true → true ≡ false = λ h. sym plain ∙ ap is_plain ((bytes_eq-Decides s one).0 h) in
+    let not_one : bytes_eq s one ≡ false = false_from_ne_true (bytes_eq s one) (λ h. let k = one_apart h in absurd cc) in
+    let any_apart : bytes_eq s any ≡ true → true ≡ false = λ h. sym plain ∙ ap is_plain ((bytes_eq-Decides s any).0 h) in
+    let not_any : bytes_eq s any ≡ false = false_from_ne_true (bytes_eq s any) (λ h. let k = any_apart h in absurd cc) in
     record {
       as_one = ap (λ x. bytes_eq x one) itself ∙ not_one ∙ sym e;
       as_any = ap (λ x. bytes_eq x any) itself ∙ not_any ∙ sym f;
-      fits = ap (is_segment one any) itself ∙ or_second (is_operator one any s) (is_plain s) plain;
+      fits = ap (is_segment one any) itself ∙ or_right (is_operator one any s) (is_plain s) plain;
       free = (λ h. ap has_slash itself ∙ h);
       same = ap (piece_of one any) itself ∙ piece_literal one any s not_one not_any ∙ sym (piece_literal braced_one braced_any s e f);
     }
@@ -65,18 +71,20 @@ all_alike : (ss : List (List ℕ)) → list_all (is_segment braced_one braced_an
 unfolding AllAlike
 all_alike [] h = tt
 all_alike (s ∷ ss) h =
-    let parts = both (is_segment braced_one braced_any s) (list_all (is_segment braced_one braced_any) ss) h in
+    let parts = and_parts (is_segment braced_one braced_any s) (list_all (is_segment braced_one braced_any) ss) h in
     (alike s parts.0, all_alike ss parts.1)
 
 all_fit : (ss : List (List ℕ)) → AllAlike ss → list_all (is_segment one any) (map uri_segment ss) ≡ true
 unfolding AllAlike
 all_fit [] a = refl
-all_fit (s ∷ ss) a = and_true (is_segment one any (uri_segment s)) (list_all (is_segment one any) (map uri_segment ss)) a.0.fits (all_fit ss a.1)
+all_fit (s ∷ ss) a =
+    and_from (is_segment one any (uri_segment s)) (list_all (is_segment one any) (map uri_segment ss)) a.0.fits (all_fit ss a.1)
 
 same_operator : (s : List ℕ) → Alike s → is_operator one any (uri_segment s) ≡ is_operator braced_one braced_any s
 same_operator s a = ap (λ b. b || bytes_eq (uri_segment s) any) a.as_one ∙ ap (λ b. bytes_eq s braced_one || b) a.as_any
 
-same_operators : (ss : List (List ℕ)) → AllAlike ss → list_any (is_operator one any) (map uri_segment ss) ≡ list_any (is_operator braced_one braced_any) ss
+same_operators : (ss : List (List ℕ)) → AllAlike ss
+    → list_any (is_operator one any) (map uri_segment ss) ≡ list_any (is_operator braced_one braced_any) ss
 unfolding AllAlike
 same_operators [] a = refl
 same_operators (s ∷ ss) a =
@@ -133,9 +141,9 @@ parts a b s h =
     let first = eqb (get_or s 0 0) 47 in
     let all_pass = list_all (is_segment a b) (segments_of s) in
     let some_pass = list_any (is_operator a b) (segments_of s) in
-    let third = both (first && all_pass && some_pass) (any_is_last a b (segments_of s)) h in
-    let second = both (first && all_pass) some_pass third.0 in
-    let front = both first all_pass second.0 in
+    let third = and_parts (first && all_pass && some_pass) (any_is_last a b (segments_of s)) h in
+    let second = and_parts (first && all_pass) some_pass third.0 in
+    let front = and_parts first all_pass second.0 in
     record { slash = front.0; all = front.1; some = second.1; last = third.1 }
 
 whole_form : (a b s : List ℕ) → Parts a b s → is_form a b s ≡ true
@@ -143,8 +151,8 @@ whole_form a b s p =
     let first = eqb (get_or s 0 0) 47 in
     let all_pass = list_all (is_segment a b) (segments_of s) in
     let some_pass = list_any (is_operator a b) (segments_of s) in
-    and_true (first && all_pass && some_pass) (any_is_last a b (segments_of s))
-    (and_true (first && all_pass) some_pass (and_true first all_pass p.slash p.all) p.some) p.last
+    and_from (first && all_pass && some_pass) (any_is_last a b (segments_of s))
+    (and_from (first && all_pass) some_pass (and_from first all_pass p.slash p.all) p.some) p.last
 
 pub is_uri_of : (s : List ℕ) → is_template s ≡ true → is_uri (uri_of s) ≡ true
 is_uri_of s h =
@@ -165,7 +173,8 @@ uri_pieces_of s h =
     ap (pieces_of one any) (uri_segments s a) ∙ same_pieces (segments_of s) a
 
 -- the URI form, segment by segment
-pub uri_at_cut : (s : List ℕ) (x : Bor (List ℕ) × Bor (List ℕ)) → IsSplitOnceResult 47 s (Some x) → uri_of s ≡ uri_segment x.0.now ++ 47 ∷ uri_of x.1.now
+pub uri_at_cut : (s : List ℕ) (x : Bor (List ℕ) × Bor (List ℕ)) → IsSplitOnceResult 47 s (Some x)
+    → uri_of s ≡ uri_segment x.0.now ++ 47 ∷ uri_of x.1.now
 uri_at_cut s x h =
     let q : HasSegment (segments_of x.1.now) = some_segment x.1.now in
     ap (λ ss. join_with_byte 47 (map uri_segment ss)) (one_more s x h)

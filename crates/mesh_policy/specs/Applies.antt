@@ -13,5 +13,6 @@ root_namespace = codes "istio-system"
 abbrev pub applies : Pod → AuthorizationPolicy → Bool
 applies pod policy = bytes_eq policy.namespace pod.namespace || bytes_eq policy.namespace root_namespace
 
+-- the policies that apply, in their order
 abbrev pub applying : Bundle → Pod → List AuthorizationPolicy
 applying bundle pod = filter (applies pod) bundle.authorization

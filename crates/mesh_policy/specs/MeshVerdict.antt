@@ -13,7 +13,8 @@ use Rattle.mesh_policy.specs.Applies.{applies, applying}
 use Rattle.mesh_policy.specs.Connection.{Passage, closed, plain, authenticated, opaque, passage}
 use Rattle.mesh_policy.specs.Rules.{policy_holds}
 
--- The mode of a port. No PeerAuthentication is read yet, and the default is PERMISSIVE.
+-- The mode of a port: PERMISSIVE, which is that of a port without a PeerAuthentication. Those of the manifests are not
+-- covered.
 abbrev pub mode_at : Bundle → Pod → ℕ → Mode
 mode_at bundle pod port = Permissive
 
@@ -21,21 +22,26 @@ mode_at bundle pod port = Permissive
 abbrev pub refused : Outcome
 refused = Closed
 
--- no ALLOW policy applies, or a rule of one that applies holds
+-- no policy applies, or a rule of one that applies holds; every policy is taken for one of action ALLOW
 abbrev pub is_allowed : Bundle → Pod → Case → Bool
-is_allowed bundle pod case = if list_any (applies pod) bundle.authorization then list_any (policy_holds case) (applying bundle pod) else true
+is_allowed bundle pod case =
+    if list_any (applies pod) bundle.authorization then list_any (policy_holds case) (applying bundle pod)
+    else true
 
 -- the outcome of a connection that goes on
 abbrev pub judged : Bundle → Pod → Case → Outcome
 judged bundle pod case = if is_allowed bundle pod case then Admitted else refused
 
+-- of a connection that is closed nothing else is asked
 abbrev pub outcome_of : Passage → Outcome → Outcome
 outcome_of closed outcome = Closed
 outcome_of plain outcome = outcome
 outcome_of authenticated outcome = outcome
 outcome_of opaque outcome = outcome
 
--- The connection is closed by the mode of its port, or the policies judge it. No AUDIT policy is read
--- yet, so nothing sets the mark.
+-- The connection is closed by the mode of its port, or the policies judge it. Covered are ports that speak TCP in the
+-- mode PERMISSIVE, and policies of action ALLOW whose rules name ports alone; so nothing sets the audit mark.
 abbrev pub mesh_verdict : Bundle → Pod → Case → Verdict
-mesh_verdict bundle pod case = record { outcome = outcome_of (passage (mode_at bundle pod case.port) case.tls) (judged bundle pod case); audited = false }
+mesh_verdict bundle pod case =
+    let outcome = outcome_of (passage (mode_at bundle pod case.port) case.tls) (judged bundle pod case) in
+    record { outcome = outcome; audited = false }

@@ -1,3 +1,4 @@
+// The manifests of one document, and the settings of the mesh.
 use crate::{
     AuthorizationPolicy, PeerAuthentication, Pod, Provider, RequestAuthentication, Service,
 };

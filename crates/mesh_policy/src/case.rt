@@ -1,3 +1,4 @@
+// A connection to judge.
 use crate::{Answer, Request, TokenVerdict};
 use mesh_net::IpAddr;
 use mesh_text::{List, Text};

@@ -1,3 +1,4 @@
+// The conditions of rules.
 use mesh_net::Cidr;
 use mesh_text::{List, Text};
 

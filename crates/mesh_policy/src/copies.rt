@@ -11,7 +11,7 @@ pub trait TryCopy {
         ensures { IfOk result (λ c. c ≡ self.now) };
 }
 
-pub fn copy_all<T: TryCopy + Drop>(alloc: Global, items: &[T]) -> Result<List<T>, Memory>
+fn copy_all<T: TryCopy + Drop>(alloc: Global, items: &[T]) -> Result<List<T>, Memory>
     ensures { IfOk result (λ l. l ≡ items.now) }
 {
     let mut copies = List::with_room(alloc, items.len())?;
@@ -21,12 +21,18 @@ pub fn copy_all<T: TryCopy + Drop>(alloc: Global, items: &[T]) -> Result<List<T>
     Ok(copies)
 }
 
-pub fn copy_written(alloc: Global, text: &Option<Text>) -> Result<Option<Text>, Memory>
-    ensures { IfOk result (λ o. o ≡ text.now) }
-{
-    match text {
-        None => Ok(None),
-        Some(text) => Ok(Some(text.copy(alloc)?)),
+impl<T: TryCopy + Drop> TryCopy for List<T> {
+    fn try_copy(&self, alloc: Global) -> Result<List<T>, Memory> {
+        copy_all(alloc, self)
+    }
+}
+
+impl<T: TryCopy> TryCopy for Option<T> {
+    fn try_copy(&self, alloc: Global) -> Result<Option<T>, Memory> {
+        match self {
+            None => Ok(None),
+            Some(item) => Ok(Some(item.try_copy(alloc)?)),
+        }
     }
 }
 
@@ -72,9 +78,9 @@ impl TryCopy for TokenPlace {
 impl TryCopy for Rule {
     fn try_copy(&self, alloc: Global) -> Result<Rule, Memory> {
         Ok(Rule {
-            sources: copy_all(alloc, self.sources.as_slice())?,
-            operations: copy_all(alloc, self.operations.as_slice())?,
-            conditions: copy_all(alloc, self.conditions.as_slice())?,
+            sources: self.sources.try_copy(alloc)?,
+            operations: self.operations.try_copy(alloc)?,
+            conditions: self.conditions.try_copy(alloc)?,
         })
     }
 }
@@ -82,16 +88,16 @@ impl TryCopy for Rule {
 impl TryCopy for SourceSpec {
     fn try_copy(&self, alloc: Global) -> Result<SourceSpec, Memory> {
         Ok(SourceSpec {
-            principals: copy_all(alloc, self.principals.as_slice())?,
-            not_principals: copy_all(alloc, self.not_principals.as_slice())?,
-            request_principals: copy_all(alloc, self.request_principals.as_slice())?,
-            not_request_principals: copy_all(alloc, self.not_request_principals.as_slice())?,
-            namespaces: copy_all(alloc, self.namespaces.as_slice())?,
-            not_namespaces: copy_all(alloc, self.not_namespaces.as_slice())?,
-            ip_blocks: copy_all(alloc, self.ip_blocks.as_slice())?,
-            not_ip_blocks: copy_all(alloc, self.not_ip_blocks.as_slice())?,
-            remote_ip_blocks: copy_all(alloc, self.remote_ip_blocks.as_slice())?,
-            not_remote_ip_blocks: copy_all(alloc, self.not_remote_ip_blocks.as_slice())?,
+            principals: self.principals.try_copy(alloc)?,
+            not_principals: self.not_principals.try_copy(alloc)?,
+            request_principals: self.request_principals.try_copy(alloc)?,
+            not_request_principals: self.not_request_principals.try_copy(alloc)?,
+            namespaces: self.namespaces.try_copy(alloc)?,
+            not_namespaces: self.not_namespaces.try_copy(alloc)?,
+            ip_blocks: self.ip_blocks.try_copy(alloc)?,
+            not_ip_blocks: self.not_ip_blocks.try_copy(alloc)?,
+            remote_ip_blocks: self.remote_ip_blocks.try_copy(alloc)?,
+            not_remote_ip_blocks: self.not_remote_ip_blocks.try_copy(alloc)?,
         })
     }
 }
@@ -99,14 +105,14 @@ impl TryCopy for SourceSpec {
 impl TryCopy for OperationSpec {
     fn try_copy(&self, alloc: Global) -> Result<OperationSpec, Memory> {
         Ok(OperationSpec {
-            hosts: copy_all(alloc, self.hosts.as_slice())?,
-            not_hosts: copy_all(alloc, self.not_hosts.as_slice())?,
-            ports: copy_all(alloc, self.ports.as_slice())?,
-            not_ports: copy_all(alloc, self.not_ports.as_slice())?,
-            methods: copy_all(alloc, self.methods.as_slice())?,
-            not_methods: copy_all(alloc, self.not_methods.as_slice())?,
-            paths: copy_all(alloc, self.paths.as_slice())?,
-            not_paths: copy_all(alloc, self.not_paths.as_slice())?,
+            hosts: self.hosts.try_copy(alloc)?,
+            not_hosts: self.not_hosts.try_copy(alloc)?,
+            ports: self.ports.try_copy(alloc)?,
+            not_ports: self.not_ports.try_copy(alloc)?,
+            methods: self.methods.try_copy(alloc)?,
+            not_methods: self.not_methods.try_copy(alloc)?,
+            paths: self.paths.try_copy(alloc)?,
+            not_paths: self.not_paths.try_copy(alloc)?,
         })
     }
 }
@@ -120,8 +126,8 @@ impl TryCopy for Condition {
                 not_values,
             } => Ok(Condition::Words {
                 key: key.try_copy(alloc)?,
-                values: copy_all(alloc, values.as_slice())?,
-                not_values: copy_all(alloc, not_values.as_slice())?,
+                values: values.try_copy(alloc)?,
+                not_values: not_values.try_copy(alloc)?,
             }),
             Condition::Blocks {
                 key,
@@ -129,12 +135,12 @@ impl TryCopy for Condition {
                 not_values,
             } => Ok(Condition::Blocks {
                 key: *key,
-                values: copy_all(alloc, values.as_slice())?,
-                not_values: copy_all(alloc, not_values.as_slice())?,
+                values: values.try_copy(alloc)?,
+                not_values: not_values.try_copy(alloc)?,
             }),
             Condition::Ports { values, not_values } => Ok(Condition::Ports {
-                values: copy_all(alloc, values.as_slice())?,
-                not_values: copy_all(alloc, not_values.as_slice())?,
+                values: values.try_copy(alloc)?,
+                not_values: not_values.try_copy(alloc)?,
             }),
         }
     }
@@ -150,7 +156,7 @@ impl TryCopy for TextKey {
             TextKey::AuthPrincipal => Ok(TextKey::AuthPrincipal),
             TextKey::Audiences => Ok(TextKey::Audiences),
             TextKey::Presenter => Ok(TextKey::Presenter),
-            TextKey::Claim(path) => Ok(TextKey::Claim(copy_all(alloc, path.as_slice())?)),
+            TextKey::Claim(path) => Ok(TextKey::Claim(path.try_copy(alloc)?)),
         }
     }
 }

@@ -1,7 +1,8 @@
+// RequestAuthentications: whose tokens a workload takes, and where a request shows them.
 ghost use Rattle.std.specs.Prelude.{◌≡◌, IfOk};
 
 use crate::Label;
-use crate::copies::{copy_all, copy_written};
+use crate::copies::TryCopy;
 use mesh_text::{List, Memory, Text};
 use std::alloc::Global;
 
@@ -55,11 +56,11 @@ impl JwtRule {
     {
         Ok(JwtRule {
             issuer: self.issuer.copy(alloc)?,
-            audiences: copy_all(alloc, self.audiences.as_slice())?,
+            audiences: self.audiences.try_copy(alloc)?,
             keys: self.keys.copy(alloc)?,
-            places: copy_all(alloc, self.places.as_slice())?,
+            places: self.places.try_copy(alloc)?,
             forward: self.forward,
-            payload_header: copy_written(alloc, &self.payload_header)?,
+            payload_header: self.payload_header.try_copy(alloc)?,
         })
     }
 }

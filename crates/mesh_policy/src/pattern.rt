@@ -1,5 +1,6 @@
+// String forms of match values.
 ghost use Rattle.std.specs.Prelude.{◌≡◌, ◌≢◌, ◌↔◌, [], false, IfOk, IsTrue};
-ghost use Rattle.mesh_policy.specs.Patterns as form;
+ghost use Rattle.mesh_policy.specs.Pattern as form;
 
 use mesh_text::{Memory, Text, eq_fold, is_prefix, is_prefix_fold, is_suffix, is_suffix_fold};
 use std::alloc::Global;
@@ -42,8 +43,8 @@ impl Pattern {
     {
         match self {
             Pattern::Exact(whole) => whole.as_str() == text,
-            Pattern::Prefix(front) => is_prefix(front.as_str(), text),
-            Pattern::Suffix(end) => is_suffix(end.as_str(), text),
+            Pattern::Prefix(front) => is_prefix(front, text),
+            Pattern::Suffix(end) => is_suffix(end, text),
             Pattern::Present => !text.is_empty(),
         }
     }
@@ -54,9 +55,9 @@ impl Pattern {
         ensures means { IsTrue result ↔ form.PatternHoldsFolded self.now text.now }
     {
         match self {
-            Pattern::Exact(whole) => eq_fold(whole.as_str(), text),
-            Pattern::Prefix(front) => is_prefix_fold(front.as_str(), text),
-            Pattern::Suffix(end) => is_suffix_fold(end.as_str(), text),
+            Pattern::Exact(whole) => eq_fold(whole, text),
+            Pattern::Prefix(front) => is_prefix_fold(front, text),
+            Pattern::Suffix(end) => is_suffix_fold(end, text),
             Pattern::Present => !text.is_empty(),
         }
     }

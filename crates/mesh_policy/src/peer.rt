@@ -1,3 +1,4 @@
+// PeerAuthentications: how ports take TLS.
 use crate::Label;
 use mesh_text::{List, Text};
 

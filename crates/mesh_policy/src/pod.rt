@@ -1,3 +1,4 @@
+// Pods, their labels and named ports.
 use mesh_text::{List, Text};
 
 /// A label of a Pod, or one that a selector asks for (Kubernetes, "Labels and Selectors").

@@ -1,6 +1,7 @@
+// AuthorizationPolicies and the parts of their rules.
 ghost use Rattle.std.specs.Prelude.{◌≡◌, IfOk};
 
-use crate::copies::{copy_all, copy_written};
+use crate::copies::TryCopy;
 use crate::{Condition, Label};
 use mesh_net::Cidr;
 use mesh_text::{List, Memory, Text};
@@ -77,10 +78,10 @@ impl AuthorizationPolicy {
         Ok(AuthorizationPolicy {
             name: self.name.copy(alloc)?,
             namespace: self.namespace.copy(alloc)?,
-            labels: copy_all(alloc, self.labels.as_slice())?,
+            labels: self.labels.try_copy(alloc)?,
             action: self.action,
-            provider: copy_written(alloc, &self.provider)?,
-            rules: copy_all(alloc, self.rules.as_slice())?,
+            provider: self.provider.try_copy(alloc)?,
+            rules: self.rules.try_copy(alloc)?,
         })
     }
 }

@@ -1,5 +1,6 @@
+// External authorizers.
 ghost use Rattle.std.specs.Prelude.{◌≡◌, IfOk};
-ghost use Rattle.mesh_policy.specs.Clusters.{cluster_of};
+ghost use Rattle.mesh_policy.specs.Provider.{cluster_of};
 
 use mesh_text::{Memory, Text};
 use std::alloc::Global;
@@ -39,6 +40,6 @@ impl Provider {
 pub fn cluster_of(alloc: Global, p: &Provider) -> Result<Text, Memory>
     ensures { IfOk result (λ t. t ≡ cluster_of p.now) }
 {
-    let name = format!(in alloc; "outbound|{}||{}", p.port, p.service.as_str())?;
+    let name = format!(in alloc; "outbound|{}||{}", p.port, p.service)?;
     Ok(Text::from_string(name))
 }

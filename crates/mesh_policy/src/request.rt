@@ -1,3 +1,4 @@
+// HTTP requests.
 use mesh_text::{List, Text};
 
 /// An HTTP request, as policies see it (RFC 9110, sections 6 and 7).

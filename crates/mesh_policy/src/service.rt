@@ -1,3 +1,4 @@
+// Services and their ports.
 use crate::Label;
 use mesh_text::{List, Text};
 

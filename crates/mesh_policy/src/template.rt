@@ -1,11 +1,12 @@
-ghost use Rattle.std.specs.Prelude.{◌≡◌, ◌==◌, ◌↔◌, true, slice_index, IfOk, IfSome, IsTrue};
+// Path templates, and their URI forms.
+ghost use Rattle.std.specs.Prelude.{◌≡◌, ◌==◌, ◌↔◌, true, IfOk, IfSome, IsTrue};
 ghost use Rattle.std.specs.Cmp.{partial_equiv_from_equiv};
 ghost use Rattle.std.specs.Cmp.Lexicographic.{pointwise, nat_list_eq_equiv};
 ghost use Rattle.std.specs.Cmp.Rules.{hashing};
 ghost use Rattle.std.specs.Hash as fed;
 ghost use Rattle.std.specs.List.{list_all, list_any};
 ghost use Rattle.std.proofs.Common.{rules};
-ghost use Rattle.mesh_policy.specs.Templates as form;
+ghost use Rattle.mesh_policy.specs.Template as form;
 
 use mesh_text::{Memory, Text};
 use std::alloc::Global;
@@ -22,7 +23,7 @@ pub struct Template {
 
 impl Model for Template {
     ghost use Rattle.std.specs.Prelude.{◌≡◌, true, List, ℕ};
-    ghost use Rattle.mesh_policy.specs.Templates.{is_uri};
+    ghost use Rattle.mesh_policy.specs.Template.{is_uri};
 
     ghost Value = { List ℕ };
 
@@ -86,8 +87,8 @@ impl Template {
         Ok(Template { uri })
     }
 
-    /// Whether it holds for a path without query and fragment: `{*}` stands for a segment that is not empty,
-    /// and `{**}` for any text. It takes no memory, and looks at no byte more than a few times, since what
+    /// Whether it holds for a path without query and fragment, as `path_of` cuts it: `{*}` stands for a segment that is
+    /// not empty, and `{**}` for any text. It takes no memory, and looks at no byte more than a few times, since what
     /// follows `{**}` is plain.
     pub fn matches(&self, path: &str) -> bool
         ensures value { result ≡ form.template_holds self.now path.now }
@@ -170,7 +171,7 @@ fn is_form(s: &str, one: &str, any: &str) -> bool
 }
 
 fn begins_with_slash(s: &str) -> bool
-    ensures { result ≡ (slice_index s.now 0 == 47) }
+    ensures { result ≡ form.begins_with_slash s.now }
 {
     let bytes = s.as_bytes();
     !bytes.is_empty() && bytes[0] == b'/'

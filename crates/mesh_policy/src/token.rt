@@ -1,7 +1,9 @@
+// Where a request shows a token.
 ghost use Rattle.std.specs.Prelude.{◌≡◌};
 ghost use Rattle.std.specs.Option.{option_copied};
-ghost use Rattle.mesh_policy.specs.Tokens as token;
+ghost use Rattle.mesh_policy.specs.Token as token;
 
+use crate::path::before_fragment;
 use crate::{Header, Request, TokenPlace};
 use mesh_text::eq_fold;
 
@@ -12,15 +14,9 @@ pub fn find_token<'a>(place: &TokenPlace, request: &'a Request) -> Option<&'a st
 {
     match place {
         TokenPlace::Header { name, prefix } => {
-            not_empty(behind(
-                prefix.as_str(),
-                value_of(name.as_str(), request.headers.as_slice()),
-            ))
+            not_empty(behind(prefix, value_of(name, &request.headers)))
         }
-        TokenPlace::Param(name) => not_empty(parameter(
-            name.as_str(),
-            query_of(request.path.as_str()),
-        )),
+        TokenPlace::Param(name) => not_empty(parameter(name, query_of(&request.path))),
     }
 }
 
@@ -42,7 +38,7 @@ fn value_of<'a>(name: &str, headers: &'a [Header]) -> Option<&'a str>
     ensures { option_copied result ≡ token.value_of name.now headers.now }
 {
     for header in headers {
-        if eq_fold(header.name.as_str(), name) {
+        if eq_fold(&header.name, name) {
             return Some(header.value.as_str());
         }
     }
@@ -63,15 +59,6 @@ fn query_of(path: &str) -> &str
     ensures { result.now ≡ token.query_of path.now }
 {
     after_mark(before_fragment(path))
-}
-
-fn before_fragment(path: &str) -> &str
-    ensures { result.now ≡ token.before_fragment path.now }
-{
-    match path.split_once('#') {
-        None => path,
-        Some((front, _)) => front,
-    }
 }
 
 fn after_mark(path: &str) -> &str

@@ -1,3 +1,4 @@
+// What others found out of a connection: valid tokens, and answers of authorizers.
 use mesh_text::{List, Text};
 
 /// A token that is valid for a rule's issuer, audiences and keys, with its claims. A question that a case doesn't list

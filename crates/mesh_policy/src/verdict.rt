@@ -1,3 +1,4 @@
+// What comes of a connection.
 /// What comes of a connection or request.
 #[derive(Clone, Copy, Debug, PartialEq, Eq)]
 pub enum Outcome {

@@ -1,7 +1,7 @@
 use Rattle.std.proofs.Common.{rules, lit<}
 use Rattle.std.proofs.lemmas.Iterator.Search.{all_from_yields_List}
 use Rattle.std.proofs.lemmas.Iterator.Splits.{YieldsList-from_str_split}
-use Rattle.mesh_policy.specs.Templates.{is_segment}
+use Rattle.mesh_policy.specs.Template.{is_segment}
 use Rattle.mesh_policy.proofs.template.all_segments.Goals as goal
 
 pub returns : goal.returns

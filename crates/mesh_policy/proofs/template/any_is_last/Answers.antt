@@ -5,13 +5,15 @@ use Rattle.mesh_policy.proofs.template.any_is_last.Goals as goal
 pub returns-then-eq : goal.returns-then-eq
 returns-then-eq c =
     sym (c.segments.invariant.value
-    ∙ last_stops c.args.one.now c.args.any.now c.segments.rest.now (c.in-Some.segment, c.in-Some.more) c.has_operator.result c.in-Some.ensures.cases c.if-eq.ensures c.has_operator.ensures)
+    ∙ last_stops c.args.one.now c.args.any.now c.segments.rest.now (c.in-Some.segment, c.in-Some.more)
+    c.has_operator.result c.in-Some.ensures.cases c.if-eq.ensures c.has_operator.ensures)
 
 pub segments-preserved : goal.segments-preserved
 segments-preserved c = record {
   is_text = search rules;
   value = c.segments.invariant.value
-      ∙ last_goes_on c.args.one.now c.args.any.now c.segments.rest.now (c.in-Some.segment, c.in-Some.more) c.in-Some.ensures.cases c.if-eq.ensures;
+      ∙ last_goes_on c.args.one.now c.args.any.now c.segments.rest.now (c.in-Some.segment, c.in-Some.more)
+      c.in-Some.ensures.cases c.if-eq.ensures;
 }
 
 pub returns : goal.returns

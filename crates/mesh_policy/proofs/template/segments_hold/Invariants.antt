@@ -1,6 +1,6 @@
 use Rattle.std.proofs.Common.{◌≡◌, length}
 use Rattle.std.specs.Str.{IsUtf8}
-use Rattle.mesh_policy.specs.Templates as form
+use Rattle.mesh_policy.specs.Template as form
 use Rattle.mesh_policy.proofs.template.segments_hold.Given as goal
 
 abbrev pub invariant-segments : goal.invariant-segments

@@ -2,7 +2,7 @@ use Rattle.std.proofs.Common.{rules, lit<}
 use Rattle.std.proofs.lemmas.Iterator.Search.{find_from_yields_List}
 use Rattle.std.proofs.lemmas.Iterator.Splits.{YieldsList-from_str_split}
 use Rattle.mesh_policy.proofs.TokenLemmas.{no_piece, one_piece}
-use Rattle.mesh_policy.specs.Tokens.{is_named}
+use Rattle.mesh_policy.specs.Token.{is_named}
 use Rattle.mesh_policy.proofs.token.parameter.Goals as goal
 
 pub returns-in-None : goal.returns-in-None

@@ -1,5 +1,5 @@
 use Rattle.std.proofs.Common.{◌≡◌, drop}
-use Rattle.mesh_policy.specs.Tokens as token
+use Rattle.mesh_policy.specs.Token as token
 use Rattle.mesh_policy.proofs.token.value_of.Given as goal
 
 abbrev pub invariant-loop-header : goal.invariant-loop-header

@@ -9,5 +9,6 @@ parse_unstarred-requires-clause-unstarred c =
 
 pub returns-in-None-clause-value : goal.returns-in-None-clause-value
 returns-in-None-clause-value c =
-    let same = pattern_unstarred c.args.s.now (no_star_in_front c.args.s.now (strip_prefix_char 42 c.args.s.now None c.in-None.ensures.cases (lit< tt))) in
+    let unstarred = no_star_in_front c.args.s.now (strip_prefix_char 42 c.args.s.now None c.in-None.ensures.cases (lit< tt)) in
+    let same = pattern_unstarred c.args.s.now unstarred in
     rw (← same) c.parse_unstarred.ensures.value

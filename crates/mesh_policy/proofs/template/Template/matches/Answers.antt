@@ -1,6 +1,6 @@
 use Rattle.std.proofs.Common.{◌∙◌, ap, List, ℕ}
 use Rattle.mesh_policy.proofs.TemplateLemmas.{template_means}
-use Rattle.mesh_policy.specs.Templates.{template_holds}
+use Rattle.mesh_policy.specs.Template.{template_holds}
 use Rattle.mesh_policy.proofs.template.Template.matches.Goals as goal
 
 pub returns-clause-means : goal.returns-clause-means

@@ -1,6 +1,6 @@
 use Rattle.std.proofs.Common.{sym, ◌∙◌, ap}
 use Rattle.mesh_policy.proofs.UriLemmas.{is_uri_of, uri_pieces_of}
-use Rattle.mesh_policy.specs.Templates.{is_uri, uri_pieces}
+use Rattle.mesh_policy.specs.Template.{is_uri, uri_pieces}
 use Rattle.mesh_policy.proofs.template.Template.parse.Goals as goal
 
 pub invariant_of-result : goal.invariant_of-result

@@ -11,6 +11,7 @@ use Rattle.envoy_types.specs.declared.listener.Listener.{Listener}
 use Rattle.envoy_types.specs.Filters.{Run, run_filters}
 use Rattle.envoy_types.specs.Prune.{chosen}
 
+-- the connection is closed, without a mark
 abbrev pub closed : Verdict
 closed = record { outcome = Closed; audited = false }
 
@@ -23,9 +24,11 @@ shows_peer (Some tls) = is_some tls.peer
 abbrev pub tcp_verdict : Run → Verdict
 tcp_verdict run = record { outcome = if run.passes then Admitted else Closed; audited = run.audited }
 
+-- the filters of a chain decide
 abbrev pub body_verdict : Case → ChainBody → Verdict
 body_verdict case (Tcp filters cluster) = tcp_verdict (run_filters case filters false)
 
+-- a chain with the socket closes what shows no peer
 abbrev pub chain_verdict : Case → FilterChain → Verdict
 chain_verdict case chain = if chain.mutual_tls && not (shows_peer case.tls) then closed else body_verdict case chain.body
 
@@ -34,5 +37,6 @@ abbrev pub verdict_by : Case → Option FilterChain → Verdict
 verdict_by case None = closed
 verdict_by case (Some chain) = chain_verdict case chain
 
+-- of the chain that is chosen
 abbrev pub envoy_verdict : Listener → Case → Verdict
 envoy_verdict listener case = verdict_by case (chosen listener.chains case)

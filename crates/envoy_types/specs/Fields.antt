@@ -11,9 +11,11 @@ infixl 4 ◌>>=◌
 abbrev pub ◌>>=◌ : {A B : Type 0} → Option A → (A → Option B) → Option B
 o >>= next = option_and_then next o
 
+-- a reading that a test may refuse
 abbrev pub only_when : {A : Type 0} → Bool → Option A → Option A
 only_when test reading = if test then reading else None
 
+-- each key is one of these names
 abbrev pub are_known : List (List ℕ) → Members → Bool
 are_known names no_members = true
 are_known names (member key d ms) = list_any (bytes_eq key) names && are_known names ms
@@ -27,6 +29,7 @@ has_only names (string s) = false
 has_only names (array ds) = false
 has_only names (object ms) = are_known names ms
 
+-- the value is there and passes the test
 abbrev pub passes : {A : Type 0} → (A → Bool) → Option A → Bool
 passes test None = false
 passes test (Some x) = test x
@@ -35,6 +38,7 @@ passes test (Some x) = test x
 abbrev pub has : List ℕ → (Data → Bool) → Data → Bool
 has name test d = passes test (get name d)
 
+-- a value that is this text
 abbrev pub is_text : List ℕ → Data → Bool
 is_text text d = passes (bytes_eq text) (as_str d)
 
@@ -42,6 +46,7 @@ is_text text d = passes (bytes_eq text) (as_str d)
 abbrev pub says : List ℕ → List ℕ → Data → Bool
 says name text d = has name (is_text text) d
 
+-- the truth value `true`
 abbrev pub is_true : Data → Bool
 is_true null = false
 is_true (boolean b) = b
@@ -51,11 +56,13 @@ is_true (array ds) = false
 is_true (object ms) = false
 
 -- a list of one entry, which passes the test
+-- one entry, which passes the test
 abbrev pub sole_item : (Data → Bool) → Items → Bool
 sole_item test no_items = false
 sole_item test (item d no_items) = test d
 sole_item test (item d (item e ds)) = false
 
+-- the same of a value
 abbrev pub is_sole : (Data → Bool) → Data → Bool
 is_sole test d = passes (sole_item test) (as_array d)
 
@@ -66,6 +73,7 @@ two_items first second (item d no_items) = false
 two_items first second (item d (item e no_items)) = first d && second e
 two_items first second (item d (item e (item f ds))) = false
 
+-- the same of a value
 abbrev pub is_pair : (Data → Bool) → (Data → Bool) → Data → Bool
 is_pair first second d = passes (two_items first second) (as_array d)
 
@@ -78,6 +86,7 @@ abbrev pub each : {A : Type 0} → (Data → Option A) → Items → Option (Lis
 each reading no_items = Some []
 each reading (item d ds) = reading d >>= λ x. each reading ds >>= λ xs. Some (x ∷ xs)
 
+-- the same of a value, which is a list
 abbrev pub list_of : {A : Type 0} → (Data → Option A) → Data → Option (List A)
 list_of reading d = as_array d >>= each reading
 
@@ -90,5 +99,6 @@ abbrev pub read_or : {A : Type 0} → A → (Data → Option A) → Option Data 
 read_or default reading None = Some default
 read_or default reading (Some d) = reading d
 
+-- the same of a field by its name
 abbrev pub field_or : {A : Type 0} → List ℕ → A → (Data → Option A) → Data → Option A
 field_or name default reading d = read_or default reading (get name d)

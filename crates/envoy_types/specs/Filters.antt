@@ -12,11 +12,13 @@ use Rattle.envoy_types.specs.declared.rbac.Principal.TheVariants.{Any}
 use Rattle.envoy_types.specs.declared.rbac.RbacAction.{RbacAction}
 use Rattle.envoy_types.specs.declared.rbac.RbacAction.TheVariants.{Allow, Deny, Log}
 use Rattle.envoy_types.specs.declared.rbac.RbacPolicy.{RbacPolicy}
-use Rattle.envoy_types.specs.Rules.{Rules}
+use Rattle.envoy_types.specs.Rbac.{Rules}
 
+-- `config.rbac.v3.Permission`: the destination port
 abbrev pub permission_holds : Case → PermissionLeaf → Bool
 permission_holds case (DestinationPort port) = port == case.port
 
+-- `config.rbac.v3.Principal`: any
 abbrev pub principal_holds : Case → Principal → Bool
 principal_holds case Any = true
 
@@ -28,11 +30,13 @@ policy_holds case policy = list_any (permission_holds case) policy.permissions &
 abbrev pub effective : Case → Rules → Option RbacPolicy
 effective case rules = find (policy_holds case) rules.policies
 
+-- whether a connection goes on, by the action and whether a policy holds (`config.rbac.v3.RBAC.Action`)
 abbrev pub action_passes : RbacAction → Bool → Bool
 action_passes Allow holds = holds
 action_passes Deny holds = not holds
 action_passes Log holds = true
 
+-- LOG marks what a policy holds for
 abbrev pub action_marks : RbacAction → Bool → Bool
 action_marks Allow holds = false
 action_marks Deny holds = false
@@ -43,6 +47,7 @@ abbrev pub rbac_passes : Case → Option Rules → Bool
 rbac_passes case None = true
 rbac_passes case (Some rules) = action_passes rules.action (is_some (effective case rules))
 
+-- and mark nothing
 abbrev pub rbac_marks : Case → Option Rules → Bool
 rbac_marks case None = false
 rbac_marks case (Some rules) = action_marks rules.action (is_some (effective case rules))
@@ -55,4 +60,7 @@ pub record Run : Type 0 where
 -- The filters run in order, from the audit mark of those before. The first refusal ends the run.
 abbrev pub run_filters : Case → List NetworkFilter → Bool → Run
 run_filters case [] mark = record { passes = true; audited = mark }
-run_filters case (filter.Rbac rbac ∷ rest) mark = if rbac_passes case rbac.rules then run_filters case rest (mark || rbac_marks case rbac.rules) else record { passes = false; audited = mark || rbac_marks case rbac.rules }
+run_filters case (filter.Rbac rbac ∷ rest) mark =
+    let marked = mark || rbac_marks case rbac.rules in
+    if rbac_passes case rbac.rules then run_filters case rest marked
+    else record { passes = false; audited = marked }

@@ -3,6 +3,6 @@ pub mod Fields
 pub mod Filters
 pub mod Names
 pub mod Prune
-pub mod Rules
+pub mod Rbac
 pub mod Spells
 pub mod Written

@@ -8,7 +8,7 @@ use Rattle.envoy_types.specs.declared.listener.FilterChain.{FilterChain}
 use Rattle.envoy_types.specs.declared.listener.Transport.{Transport}
 use Rattle.envoy_types.specs.declared.listener.Transport.TheVariants.{RawBuffer, Tls as Encrypted}
 
--- the chains that name the value, or those that name none
+-- the chains that name the value, or those that name none, as told
 abbrev pub kept : Bool → (FilterChain → Bool) → (FilterChain → Bool) → List FilterChain → List FilterChain
 kept by_value names is_open chains = filter (λ chain. if by_value then names chain else is_open chain) chains
 
@@ -16,13 +16,16 @@ kept by_value names is_open chains = filter (λ chain. if by_value then names ch
 abbrev pub narrowed : (FilterChain → Bool) → (FilterChain → Bool) → List FilterChain → List FilterChain
 narrowed names is_open chains = kept (list_any names chains) names is_open chains
 
+-- a port that is matched is this one
 abbrev pub is_port : ℕ → Option ℕ → Bool
 is_port port None = false
 is_port port (Some named) = named == port
 
+-- `destination_port` is this port
 abbrev pub names_port : ℕ → FilterChain → Bool
 names_port port chain = is_port port chain.matching.port
 
+-- `destination_port` is not written
 abbrev pub is_any_port : FilterChain → Bool
 is_any_port chain = is_none chain.matching.port
 
@@ -31,26 +34,32 @@ abbrev pub transport_of : Option Tls → Transport
 transport_of None = RawBuffer
 transport_of (Some tls) = Encrypted
 
+-- `==` on transports
 abbrev pub same_transport : Transport → Transport → Bool
 same_transport RawBuffer RawBuffer = true
 same_transport RawBuffer Encrypted = false
 same_transport Encrypted RawBuffer = false
 same_transport Encrypted Encrypted = true
 
+-- a transport protocol that is matched is this one
 abbrev pub is_transport : Transport → Option Transport → Bool
 is_transport transport None = false
 is_transport transport (Some named) = same_transport named transport
 
+-- `transport_protocol` is this one
 abbrev pub names_transport : Transport → FilterChain → Bool
 names_transport transport chain = is_transport transport chain.matching.transport
 
+-- `transport_protocol` is not written
 abbrev pub is_any_transport : FilterChain → Bool
 is_any_transport chain = is_none chain.matching.transport
 
+-- the application protocols that the client offers
 abbrev pub offered : Option Tls → List (List ℕ)
 offered None = []
 offered (Some tls) = tls.alpn
 
+-- `application_protocols` has this name
 abbrev pub lists_name : List ℕ → FilterChain → Bool
 lists_name name chain = list_any (bytes_eq name) chain.matching.alpn
 
@@ -58,6 +67,7 @@ lists_name name chain = list_any (bytes_eq name) chain.matching.alpn
 abbrev pub agreed_name : List (List ℕ) → List FilterChain → Option (List ℕ)
 agreed_name names chains = find (λ name. list_any (lists_name name) chains) names
 
+-- the chain lists the agreed name, or none where no name is agreed
 abbrev pub fits_name : Option (List ℕ) → FilterChain → Bool
 fits_name None chain = length chain.matching.alpn == 0
 fits_name (Some name) chain = lists_name name chain
@@ -67,6 +77,7 @@ abbrev pub remaining : ℕ → Bool → Transport → Bool → List FilterChain 
 remaining port by_port transport by_transport chains =
     kept by_transport (names_transport transport) is_any_transport (kept by_port (names_port port) is_any_port chains)
 
+-- the three steps
 abbrev pub for_port : ℕ → List FilterChain → List FilterChain
 for_port port chains = narrowed (names_port port) is_any_port chains
 

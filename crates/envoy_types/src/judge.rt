@@ -1,10 +1,10 @@
-// The meaning of a listener as a program over given values, by which tests run it on worked cases.
+// The meaning of a listener as a program over given values.
 ghost use Rattle.std.specs.Prelude.{◌≡◌, false, option_copied};
 ghost use Rattle.std.specs.List.{list_any};
 ghost use Rattle.envoy_types.specs.EnvoyVerdict as meaning;
 ghost use Rattle.envoy_types.specs.Filters as rbac_meaning;
 
-use crate::choose::chosen;
+use crate::prune::chosen;
 use crate::{
     ChainBody, FilterChain, Listener, NetworkFilter, PermissionLeaf, Principal, Rbac, RbacAction,
     RbacPolicy, RbacRules,
@@ -15,7 +15,7 @@ use mesh_policy::{Case, Outcome, Verdict};
 pub fn envoy_verdict(listener: &Listener, case: &Case) -> Verdict
     ensures { result ≡ meaning.envoy_verdict listener.now case.now }
 {
-    match chosen(listener.chains.as_slice(), case) {
+    match chosen(&listener.chains, case) {
         None => Verdict {
             outcome: Outcome::Closed,
             audited: false,
@@ -34,7 +34,7 @@ fn chain_verdict(chain: &FilterChain, case: &Case) -> Verdict
         };
     }
     match &chain.body {
-        ChainBody::Tcp { filters, .. } => tcp_verdict(filters.as_slice(), case),
+        ChainBody::Tcp { filters, .. } => tcp_verdict(filters, case),
     }
 }
 
@@ -98,7 +98,6 @@ fn effective<'a>(rules: &'a RbacRules, case: &Case) -> Option<&'a RbacPolicy>
 {
     rules
         .policies
-        .as_slice()
         .iter()
         .find(|policy| policy_holds(policy, case))
 }
@@ -106,8 +105,8 @@ fn effective<'a>(rules: &'a RbacRules, case: &Case) -> Option<&'a RbacPolicy>
 fn policy_holds(policy: &RbacPolicy, case: &Case) -> bool
     ensures { result ≡ rbac_meaning.policy_holds case.now policy.now }
 {
-    some_permission_holds(policy.permissions.as_slice(), case)
-        && some_principal_holds(policy.principals.as_slice(), case)
+    some_permission_holds(&policy.permissions, case)
+        && some_principal_holds(&policy.principals, case)
 }
 
 fn some_permission_holds(permissions: &[PermissionLeaf], case: &Case) -> bool

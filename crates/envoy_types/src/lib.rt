@@ -2,13 +2,17 @@
 //! (Envoy v3 API reference).
 #![tactic(auto)]
 
-mod choose;
 mod judge;
 mod listener;
+mod names;
+mod prune;
 mod rbac;
-#[cfg(test)]
-mod tests;
 
 pub use judge::envoy_verdict;
 pub use listener::{ChainBody, ChainMatch, FilterChain, Listener, NetworkFilter, Transport};
+pub use names::{
+    NETWORK_RBAC_NAME, NETWORK_RBAC_TYPE, ORIGINAL_DST_NAME, ORIGINAL_DST_TYPE, TCP_PROXY_NAME,
+    TCP_PROXY_TYPE, TLS_INSPECTOR_NAME, TLS_INSPECTOR_TYPE, TLS_SOCKET_NAME, TLS_SOCKET_TYPE,
+    fixed_words,
+};
 pub use rbac::{PermissionLeaf, Principal, Rbac, RbacAction, RbacPolicy, RbacRules};

@@ -1,3 +1,4 @@
+// Listeners, their filter chains and network filters.
 use crate::Rbac;
 use mesh_text::{List, Text};
 

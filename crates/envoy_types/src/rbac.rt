@@ -1,3 +1,4 @@
+// The filter of role-based access control.
 use mesh_text::{List, Text};
 use std::marker::Model;
 
@@ -17,7 +18,7 @@ pub struct RbacRules {
 
 impl Model for RbacRules {
     ghost use Rattle.std.specs.Prelude.{IsTrue};
-    ghost use Rattle.envoy_types.specs.Rules.{Rules, names_rise};
+    ghost use Rattle.envoy_types.specs.Rbac.{Rules, names_rise};
 
     ghost Value = { Rules };
 

@@ -59,7 +59,7 @@ fn agreed_name<'a>(chains: &[FilterChain], wanted: Wanted, case: &'a Case) -> Op
 {
     match &case.tls {
         None => None,
-        Some(tls) => first_listed(chains, wanted, tls.alpn.as_slice()),
+        Some(tls) => first_listed(chains, wanted, &tls.alpn),
     }
 }
 
@@ -67,9 +67,7 @@ fn first_listed<'a>(chains: &[FilterChain], wanted: Wanted, names: &'a [Text]) -
     ensures { option_copied result ≡ prune.agreed_name names.now
         (prune.remaining wanted.port wanted.by_port wanted.transport wanted.by_transport chains.now) }
 {
-    names
-        .iter()
-        .find(|name| some_lists(chains, wanted, name.as_str()))
+    names.iter().find(|name| some_lists(chains, wanted, name))
 }
 
 fn some_lists(chains: &[FilterChain], wanted: Wanted, name: &str) -> bool
@@ -160,8 +158,8 @@ fn fits_name(chain: &FilterChain, name: Option<&Text>) -> bool
     ensures { result ≡ prune.fits_name (option_copied name.entry) chain.now }
 {
     match name {
-        None => chain.matching.alpn.as_slice().is_empty(),
-        Some(name) => lists_name(chain, name.as_str()),
+        None => chain.matching.alpn.is_empty(),
+        Some(name) => lists_name(chain, name),
     }
 }
 
@@ -171,7 +169,6 @@ fn lists_name(chain: &FilterChain, name: &str) -> bool
     chain
         .matching
         .alpn
-        .as_slice()
         .iter()
         .any(|listed| name == listed.as_str())
 }

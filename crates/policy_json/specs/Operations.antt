@@ -1,4 +1,5 @@
 -- What a request asks for (Istio reference, "Authorization Policy": Operation).
+use Rattle.std.specs.Prelude.{[], ◌∷◌}
 use Rattle.serde_json.specs.Data.{Data}
 use Rattle.mesh_doc.specs.Faults.{Check, ◌⨾◌}
 use Rattle.mesh_doc.specs.Fields.{strict}
@@ -6,21 +7,23 @@ use Rattle.mesh_doc.specs.Kinds.{text_in}
 use Rattle.mesh_doc.specs.Lists.{listed, listed_in}
 use Rattle.mesh_policy.specs.declared.policy.OperationSpec.{OperationSpec}
 use Rattle.policy_json.specs.Texts.{short_text_faults}
-use Rattle.policy_json.specs.Spec.{most}
 use Rattle.policy_json.specs.Values.{path_faults, port_value_faults, port_value_in}
-use Rattle.policy_json.specs.declared.operations.TheConstants.{OPERATION_FIELDS, HOSTS, NOT_HOSTS, PORTS, NOT_PORTS, METHODS, NOT_METHODS, PATHS, NOT_PATHS}
+use Rattle.policy_json.specs.declared.operations.TheConstants.{HOSTS, NOT_HOSTS, PORTS, NOT_PORTS, METHODS, NOT_METHODS, PATHS, NOT_PATHS}
 
+-- Operation: eight lists of values
 unfoldable pub operation_faults : Check
-operation_faults = strict OPERATION_FIELDS.now
-    (listed HOSTS.now most short_text_faults
-    ⨾ listed NOT_HOSTS.now most short_text_faults
-    ⨾ listed PORTS.now most port_value_faults
-    ⨾ listed NOT_PORTS.now most port_value_faults
-    ⨾ listed METHODS.now most short_text_faults
-    ⨾ listed NOT_METHODS.now most short_text_faults
-    ⨾ listed PATHS.now most path_faults
-    ⨾ listed NOT_PATHS.now most path_faults)
+operation_faults =
+    strict (HOSTS.now ∷ NOT_HOSTS.now ∷ PORTS.now ∷ NOT_PORTS.now ∷ METHODS.now ∷ NOT_METHODS.now ∷ PATHS.now ∷ NOT_PATHS.now ∷ [])
+    (listed HOSTS.now 2048 short_text_faults
+    ⨾ listed NOT_HOSTS.now 2048 short_text_faults
+    ⨾ listed PORTS.now 2048 port_value_faults
+    ⨾ listed NOT_PORTS.now 2048 port_value_faults
+    ⨾ listed METHODS.now 2048 short_text_faults
+    ⨾ listed NOT_METHODS.now 2048 short_text_faults
+    ⨾ listed PATHS.now 2048 path_faults
+    ⨾ listed NOT_PATHS.now 2048 path_faults)
 
+-- what an Operation means
 unfoldable pub operation_in : Data → OperationSpec
 operation_in d = record {
   hosts = listed_in HOSTS.now text_in d;

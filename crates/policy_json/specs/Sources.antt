@@ -1,4 +1,5 @@
 -- Who a request comes from (Istio reference, "Authorization Policy": Source).
+use Rattle.std.specs.Prelude.{[], ◌∷◌}
 use Rattle.serde_json.specs.Data.{Data}
 use Rattle.mesh_doc.specs.Faults.{Check, ◌⨾◌}
 use Rattle.mesh_doc.specs.Fields.{strict}
@@ -6,23 +7,29 @@ use Rattle.mesh_doc.specs.Kinds.{text_in}
 use Rattle.mesh_doc.specs.Lists.{listed, listed_in}
 use Rattle.mesh_policy.specs.declared.policy.SourceSpec.{SourceSpec}
 use Rattle.policy_json.specs.Texts.{short_text_faults}
-use Rattle.policy_json.specs.Spec.{most}
 use Rattle.policy_json.specs.Values.{block_faults, block_in, request_principal_faults}
-use Rattle.policy_json.specs.declared.sources.TheConstants.{SOURCE_FIELDS, PRINCIPALS, NOT_PRINCIPALS, REQUEST_PRINCIPALS, NOT_REQUEST_PRINCIPALS, NAMESPACES, NOT_NAMESPACES, IP_BLOCKS, NOT_IP_BLOCKS, REMOTE_IP_BLOCKS, NOT_REMOTE_IP_BLOCKS}
+use Rattle.policy_json.specs.declared.sources.TheConstants.{PRINCIPALS, NOT_PRINCIPALS, REQUEST_PRINCIPALS, NOT_REQUEST_PRINCIPALS}
+use Rattle.policy_json.specs.declared.sources.TheConstants.{NAMESPACES, NOT_NAMESPACES}
+use Rattle.policy_json.specs.declared.sources.TheConstants.{IP_BLOCKS, NOT_IP_BLOCKS, REMOTE_IP_BLOCKS, NOT_REMOTE_IP_BLOCKS}
 
+-- Source: ten lists of values
 unfoldable pub source_faults : Check
-source_faults = strict SOURCE_FIELDS.now
-    (listed PRINCIPALS.now most short_text_faults
-    ⨾ listed NOT_PRINCIPALS.now most short_text_faults
-    ⨾ listed REQUEST_PRINCIPALS.now most request_principal_faults
-    ⨾ listed NOT_REQUEST_PRINCIPALS.now most request_principal_faults
-    ⨾ listed NAMESPACES.now most short_text_faults
-    ⨾ listed NOT_NAMESPACES.now most short_text_faults
-    ⨾ listed IP_BLOCKS.now most block_faults
-    ⨾ listed NOT_IP_BLOCKS.now most block_faults
-    ⨾ listed REMOTE_IP_BLOCKS.now most block_faults
-    ⨾ listed NOT_REMOTE_IP_BLOCKS.now most block_faults)
+source_faults =
+    strict (PRINCIPALS.now ∷ NOT_PRINCIPALS.now ∷ REQUEST_PRINCIPALS.now ∷ NOT_REQUEST_PRINCIPALS.now
+    ∷ NAMESPACES.now ∷ NOT_NAMESPACES.now
+    ∷ IP_BLOCKS.now ∷ NOT_IP_BLOCKS.now ∷ REMOTE_IP_BLOCKS.now ∷ NOT_REMOTE_IP_BLOCKS.now ∷ [])
+    (listed PRINCIPALS.now 2048 short_text_faults
+    ⨾ listed NOT_PRINCIPALS.now 2048 short_text_faults
+    ⨾ listed REQUEST_PRINCIPALS.now 2048 request_principal_faults
+    ⨾ listed NOT_REQUEST_PRINCIPALS.now 2048 request_principal_faults
+    ⨾ listed NAMESPACES.now 2048 short_text_faults
+    ⨾ listed NOT_NAMESPACES.now 2048 short_text_faults
+    ⨾ listed IP_BLOCKS.now 2048 block_faults
+    ⨾ listed NOT_IP_BLOCKS.now 2048 block_faults
+    ⨾ listed REMOTE_IP_BLOCKS.now 2048 block_faults
+    ⨾ listed NOT_REMOTE_IP_BLOCKS.now 2048 block_faults)
 
+-- what a Source means
 unfoldable pub source_in : Data → SourceSpec
 source_in d = record {
   principals = listed_in PRINCIPALS.now text_in d;

@@ -4,13 +4,15 @@ use Rattle.std.specs.Prelude.{Bool, true, false}
 use Rattle.serde_json.specs.Data.{Data, null, boolean, number, string, array, object, Items, no_items, item}
 use Rattle.mesh_doc.specs.Faults.{Check, ◌⨾◌, demands}
 use Rattle.mesh_doc.specs.Fields.{optional}
-use Rattle.mesh_doc.specs.declared.reason.Reason.TheVariants.{TargetRefs}
+use Rattle.mesh_doc.specs.declared.reason.Reason.TheVariants as reason
 use Rattle.policy_json.specs.declared.target_refs.TheConstants.{TARGET_REFS, TARGET_REF}
 
+-- an array without entries
 abbrev pub has_no_entry : Items → Bool
 has_no_entry no_items = true
 has_no_entry (item d ds) = false
 
+-- the empty array
 abbrev pub is_empty_list : Data → Bool
 is_empty_list null = false
 is_empty_list (boolean b) = false
@@ -21,7 +23,8 @@ is_empty_list (object ms) = false
 
 -- whatever its kind, another value names a target
 unfoldable pub no_target_faults : Check
-no_target_faults = demands is_empty_list TargetRefs
+no_target_faults = demands is_empty_list reason.TargetRefs
 
+-- `targetRefs` and `targetRef`
 unfoldable pub targets_faults : Check
 targets_faults = optional TARGET_REFS.now no_target_faults ⨾ optional TARGET_REF.now no_target_faults

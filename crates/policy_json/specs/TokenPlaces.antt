@@ -5,31 +5,36 @@ use Rattle.mesh_doc.specs.Faults.{Check, ◌⨾◌}
 use Rattle.mesh_doc.specs.Fields.{strict, required, required_in, optional, optional_in}
 use Rattle.mesh_doc.specs.Kinds.{text_in}
 use Rattle.mesh_policy.specs.declared.jwt.TokenPlace.{TokenPlace}
-use Rattle.mesh_policy.specs.declared.jwt.TokenPlace.TheVariants.{Header, Param}
+use Rattle.mesh_policy.specs.declared.jwt.TokenPlace.TheVariants as place
 use Rattle.policy_json.specs.Texts.{bounded_text_faults, lower_name_faults, lower_name_in, short_text_faults}
-use Rattle.policy_json.specs.declared.token_places.TheConstants.{HEADER_FIELDS, NAME, PREFIX, AUTHORIZATION, BEARER, ACCESS_TOKEN}
+use Rattle.policy_json.specs.declared.token_places.TheConstants.{NAME, PREFIX, AUTHORIZATION, BEARER, ACCESS_TOKEN}
 
+-- JWTHeader: a header, and the prefix before the token, which is empty where none is written
 unfoldable pub header_faults : Check
-header_faults = strict HEADER_FIELDS.now
+header_faults = strict (NAME.now ∷ PREFIX.now ∷ [])
     (required NAME.now lower_name_faults
     ⨾ optional PREFIX.now bounded_text_faults)
 
+-- the header and its prefix
 unfoldable pub header_in : Data → TokenPlace
-header_in d = Header (required_in NAME.now lower_name_in d) (unwrap_or (optional_in PREFIX.now text_in d) [])
+header_in d = place.Header (required_in NAME.now lower_name_in d) (unwrap_or (optional_in PREFIX.now text_in d) [])
 
+-- an entry of `fromParams`: the name of a parameter
 unfoldable pub param_faults : Check
 param_faults = short_text_faults
 
+-- the parameter
 unfoldable pub param_in : Data → TokenPlace
-param_in d = Param (text_in d)
+param_in d = place.Param (text_in d)
 
 -- a rule that names no place: a bearer token (RFC 6750, sections 2.1 and 2.3)
 abbrev pub default_places : List TokenPlace
-default_places = Header AUTHORIZATION.now BEARER.now ∷ Param ACCESS_TOKEN.now ∷ []
+default_places = place.Header AUTHORIZATION.now BEARER.now ∷ place.Param ACCESS_TOKEN.now ∷ []
 
+-- the places that are written, or the default ones
 abbrev pub or_default : List TokenPlace → List TokenPlace
 or_default [] = default_places
-or_default (place ∷ places) = place ∷ places
+or_default (first ∷ more) = first ∷ more
 
 -- the headers, and then the parameters
 abbrev pub places_of : List TokenPlace → List TokenPlace → List TokenPlace

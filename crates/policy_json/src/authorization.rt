@@ -1,21 +1,25 @@
-ghost use Rattle.std.specs.Prelude.{◌≡◌, option_map};
+// The `spec` of an AuthorizationPolicy.
+ghost use Rattle.std.specs.Prelude.{◌≡◌, IfOk, IsTrue, option_map};
 ghost use Rattle.serde_json.specs.View.{view};
 ghost use Rattle.mesh_doc.specs.Faults.{Reads};
-ghost use Rattle.mesh_doc.specs.Kinds.{text_in};
-ghost use Rattle.policy_json.specs.Authorization.{action_faults, action_in, action_of, authorization_faults, authorization_in, belongs, provider_faults, provider_in, provider_name_faults};
-ghost use Rattle.policy_json.specs.Spec.{spec_of};
+ghost use Rattle.mesh_doc.specs.Fields.{spec_of};
+ghost use Rattle.mesh_doc.specs.declared.reason.Reason.TheVariants.{BadName};
+ghost use Rattle.mesh_policy.specs.AcceptedRules.{AcceptedPolicy};
+ghost use Rattle.mesh_policy.specs.Values.{belongs};
+ghost use Rattle.mesh_text.specs.Dns.{is_label, is_subdomain};
+ghost use Rattle.mesh_text.specs.Token as token;
+ghost use Rattle.policy_json.specs.Authorization.{action_faults, action_in, action_of, authorization_faults, authorization_in, provider_faults, provider_in};
 
 use crate::labels::{SELECTOR, Selector};
-use crate::limits::MOST;
 use crate::rules::RuleEntry;
-use crate::target_refs::no_targets;
-use mesh_doc::{DocError, Form, Place, Reason, Spot, listed, optional, required};
-use mesh_policy::{Action, AuthorizationPolicy};
+use crate::target_refs::{TARGET_REF, TARGET_REFS, no_targets};
+use mesh_doc::{
+    DocError, Form, Place, Reason, Spot, Tested, TextTest, empty_object, listed, optional, required,
+};
+use mesh_policy::{Action, AuthorizationPolicy, MOST_ENTRIES};
 use mesh_text::{List, Text, is_token};
-use serde_json::{Map, Value};
+use serde_json::Value;
 use std::alloc::Global;
-
-const AUTHORIZATION_FIELDS: &str = "action provider rules selector targetRef targetRefs";
 
 const ACTION: &str = "action";
 
@@ -44,14 +48,13 @@ pub fn read_authorization_at(
     spec: Option<&Value>,
     at: &Spot,
 ) -> Result<AuthorizationPolicy, DocError>
-    ensures { Reads result
+    ensures reads { Reads result
         (authorization_faults (spec_of (option_map (λ v. view v.now) spec.entry)) at.now)
         (authorization_in name namespace (spec_of (option_map (λ v. view v.now) spec.entry))) }
+    ensures accepted { IsTrue (is_subdomain name) → IsTrue (is_label namespace) → IfOk result AcceptedPolicy }
 {
-    match spec {
-        Some(v) => read_spec(alloc, name, namespace, v, at),
-        None => read_spec(alloc, name, namespace, &Value::Object(Map::new(alloc)), at),
-    }
+    let empty = empty_object(alloc);
+    read_spec(alloc, name, namespace, spec.unwrap_or(&empty), at)
 }
 
 /// As `read_authorization_at`, of the `spec` at `place`.
@@ -62,9 +65,10 @@ pub fn read_authorization(
     spec: Option<&Value>,
     place: &Place,
 ) -> Result<AuthorizationPolicy, DocError>
-    ensures { Reads result
+    ensures reads { Reads result
         (authorization_faults (spec_of (option_map (λ v. view v.now) spec.entry)) place.now)
         (authorization_in name namespace (spec_of (option_map (λ v. view v.now) spec.entry))) }
+    ensures accepted { IsTrue (is_subdomain name) → IsTrue (is_label namespace) → IfOk result AcceptedPolicy }
 {
     read_authorization_at(alloc, name, namespace, spec, &Spot::of(place))
 }
@@ -81,12 +85,16 @@ fn read_spec(
         (authorization_faults (view v.now) at.now)
         (authorization_in name namespace (view v.now)) }
 {
-    at.only_fields(alloc, v, AUTHORIZATION_FIELDS)?;
+    at.only_fields(
+        alloc,
+        v,
+        &[SELECTOR, TARGET_REFS, TARGET_REF, ACTION, PROVIDER, RULES],
+    )?;
     let labels = optional::<Selector>(alloc, v, SELECTOR, at)?;
     no_targets(alloc, v, at)?;
     let action = optional::<ActionWord>(alloc, v, ACTION, at)?.unwrap_or(Action::Allow);
     let provider = optional::<Provider>(alloc, v, PROVIDER, at)?;
-    let rules = listed::<RuleEntry>(alloc, v, RULES, MOST, at)?;
+    let rules = listed::<RuleEntry>(alloc, v, RULES, MOST_ENTRIES, at)?;
     if !belongs(action, &provider) {
         return Err(at.refuse(alloc, Reason::ProviderRule));
     }
@@ -159,28 +167,23 @@ impl Form for Provider {
 
     #[tactic(auto, unfolding(crate::specs::Authorization::provider_faults, crate::specs::Authorization::provider_in))]
     fn read(alloc: Global, v: &Value, at: &Spot) -> Result<Text, DocError> {
-        at.only_fields(alloc, v, NAME)?;
-        required::<ProviderName>(alloc, v, NAME, at)
+        at.only_fields(alloc, v, &[NAME])?;
+        required::<Tested<IsToken>>(alloc, v, NAME, at)
     }
 }
 
-struct ProviderName;
+struct IsToken;
 
-impl Form for ProviderName {
-    type Out = Text;
+impl TextTest for IsToken {
+    ghost passes = { token.is_token };
 
-    ghost faults = { provider_name_faults };
+    ghost reason = { BadName };
 
-    ghost value = { text_in };
+    fn passes(text: &str) -> bool {
+        is_token(text)
+    }
 
-    #[tactic(auto, unfolding(crate::specs::Authorization::provider_name_faults, mesh_doc::specs::Kinds::text_faults, mesh_doc::specs::Kinds::text_in))]
-    fn read(alloc: Global, v: &Value, at: &Spot) -> Result<Text, DocError> {
-        let Value::String(name) = v else {
-            return Err(at.refuse(alloc, Reason::WrongType));
-        };
-        if !is_token(name.as_str()) {
-            return Err(at.refuse(alloc, Reason::BadName));
-        }
-        Ok(Text::of(alloc, name.as_str())?)
+    fn reason() -> Reason {
+        Reason::BadName
     }
 }

@@ -1,4 +1,5 @@
-ghost use Rattle.std.specs.Prelude.{◌≡◌, ◌==◌, IfOk, map};
+// The keys of conditions: names of attributes.
+ghost use Rattle.std.specs.Prelude.{◌≡◌, IfOk, map};
 ghost use Rattle.std.specs.List.{after_first, before_first, list_all, slice_split};
 ghost use Rattle.policy_json.specs.ConditionKeys as keys;
 ghost use Rattle.policy_json.specs.ConditionKeys.{key_faults, key_in};
@@ -145,7 +146,7 @@ fn bracketed_key(alloc: Global, text: &str) -> Result<Option<TextKey>, Memory>
         return Ok(None);
     };
     if front == HEADERS {
-        return header(alloc, names.as_slice());
+        return header(alloc, &names);
     }
     if front == CLAIMS {
         return Ok(Some(TextKey::Claim(names)));
@@ -159,14 +160,14 @@ fn header(alloc: Global, names: &[Text]) -> Result<Option<TextKey>, Memory>
     let [name] = names else {
         return Ok(None);
     };
-    if !is_token(name.as_str()) {
+    if !is_token(name) {
         return Ok(None);
     }
-    Ok(Some(TextKey::Header(lower(alloc, name.as_str())?)))
+    Ok(Some(TextKey::Header(lower(alloc, name)?)))
 }
 
 fn before_bracket(text: &str) -> &str
-    ensures { result.now ≡ before_first (λ c. c == 91) text.now }
+    ensures { result.now ≡ before_first keys.is_open text.now }
 {
     match text.split_once('[') {
         None => text,
@@ -176,7 +177,7 @@ fn before_bracket(text: &str) -> &str
 
 // The empty text where there is no bracket.
 fn after_bracket(text: &str) -> &str
-    ensures { result.now ≡ after_first (λ c. c == 91) text.now }
+    ensures { result.now ≡ after_first keys.is_open text.now }
 {
     match text.split_once('[') {
         None => "",
@@ -198,13 +199,13 @@ fn names_in(alloc: Global, text: &str) -> Result<Option<List<Text>>, Memory>
 }
 
 fn all_closed(text: &str) -> bool
-    ensures { result ≡ list_all keys.is_closed (slice_split (λ c. c == 91) text.now) }
+    ensures { result ≡ list_all keys.is_closed (slice_split keys.is_open text.now) }
 {
     text.split('[').all(|piece| is_closed(piece))
 }
 
 fn pieces_of(alloc: Global, text: &str) -> Result<Vec<&str>, Memory>
-    ensures { IfOk result (λ pieces. map (λ x. x.now) pieces.items ≡ slice_split (λ c. c == 91) text.now) }
+    ensures { IfOk result (λ pieces. map (λ x. x.now) pieces.items ≡ slice_split keys.is_open text.now) }
 {
     Ok(text.split('[').collect(alloc)?)
 }

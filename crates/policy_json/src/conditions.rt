@@ -1,19 +1,17 @@
+// The conditions of a rule: a key, and values in the form that the key gives them.
 ghost use Rattle.serde_json.specs.View.{view};
 ghost use Rattle.mesh_doc.specs.Faults.{Reads};
 ghost use Rattle.policy_json.specs.Conditions as conditions;
 ghost use Rattle.policy_json.specs.Conditions.{condition_faults, condition_in};
 
 use crate::condition_keys::{ConditionKey, KeyName};
-use crate::limits::MOST;
 use crate::texts::ShortText;
 use crate::values::{BlockValue, PortValue, RequestPrincipal};
 use mesh_doc::{DocError, Form, Reason, Spot, listed, required};
-use mesh_policy::{Condition, TextKey};
+use mesh_policy::{Condition, MOST_ENTRIES, TextKey};
 use mesh_text::List;
 use serde_json::Value;
 use std::alloc::Global;
-
-const CONDITION_FIELDS: &str = "key notValues values";
 
 const KEY: &str = "key";
 
@@ -34,7 +32,7 @@ impl Form for WhenEntry {
 
     #[tactic(auto, unfolding(crate::specs::Conditions::condition_faults, crate::specs::Conditions::condition_in))]
     fn read(alloc: Global, v: &Value, at: &Spot) -> Result<Condition, DocError> {
-        at.only_fields(alloc, v, CONDITION_FIELDS)?;
+        at.only_fields(alloc, v, &[KEY, VALUES, NOT_VALUES])?;
         let key = required::<KeyName>(alloc, v, KEY, at)?;
         with_key(alloc, key, v, at)
     }
@@ -89,9 +87,9 @@ fn both_lists<F: Form>(alloc: Global, v: &Value, at: &Spot) -> Result<ValueLists
         (conditions.both_faults F.faults F.value (view v.now) at.now)
         (conditions.both_in F.value (view v.now)) }
 {
-    let values = listed::<F>(alloc, v, VALUES, MOST, at)?;
-    let not_values = listed::<F>(alloc, v, NOT_VALUES, MOST, at)?;
-    if values.as_slice().is_empty() && not_values.as_slice().is_empty() {
+    let values = listed::<F>(alloc, v, VALUES, MOST_ENTRIES, at)?;
+    let not_values = listed::<F>(alloc, v, NOT_VALUES, MOST_ENTRIES, at)?;
+    if values.is_empty() && not_values.is_empty() {
         return Err(at.refuse(alloc, Reason::EmptyCondition));
     }
     Ok(ValueLists { values, not_values })

@@ -1,5 +1,8 @@
+// Labels, and the selector of a policy, which asks for some.
+ghost use Rattle.std.specs.Prelude.{IfOk};
 ghost use Rattle.serde_json.specs.View.{view};
 ghost use Rattle.mesh_doc.specs.Faults.{Reads};
+ghost use Rattle.mesh_policy.specs.AcceptedLists.{AcceptedLabels};
 ghost use Rattle.policy_json.specs.Labels.{label_faults, label_in, labels_faults, labels_in, selector_faults, selector_in};
 
 use mesh_doc::{AnyText, DocError, Entry, Form, Place, Spot, members, optional};
@@ -9,8 +12,6 @@ use serde_json::Value;
 use std::alloc::Global;
 
 pub(crate) const SELECTOR: &str = "selector";
-
-const SELECTOR_FIELDS: &str = "matchLabels";
 
 const MATCH_LABELS: &str = "matchLabels";
 
@@ -33,10 +34,12 @@ impl Entry for LabelEntry {
     }
 }
 
-/// The labels that an object of texts gives, in byte order of their keys. WrongType at `place` where `v` is no
-/// object, and else WrongType at the first key whose value is no text; a `null` is none.
+/// The labels that an object of texts gives (Kubernetes, "Labels and Selectors"), in byte order of their keys, each
+/// key once. WrongType at `place` where `v` is no object, and else WrongType at the first key whose value is no text;
+/// a `null` is none.
 pub fn read_labels(alloc: Global, v: &Value, place: &Place) -> Result<List<Label>, DocError>
-    ensures { Reads result (labels_faults (view v.now) place.now) (labels_in (view v.now)) }
+    ensures reads { Reads result (labels_faults (view v.now) place.now) (labels_in (view v.now)) }
+    ensures accepted { IfOk result AcceptedLabels }
 {
     Labels::read(alloc, v, &Spot::of(place))
 }
@@ -69,7 +72,7 @@ impl Form for Selector {
 
     #[tactic(auto, unfolding(crate::specs::Labels::selector_faults, crate::specs::Labels::selector_in))]
     fn read(alloc: Global, v: &Value, at: &Spot) -> Result<List<Label>, DocError> {
-        at.only_fields(alloc, v, SELECTOR_FIELDS)?;
+        at.only_fields(alloc, v, &[MATCH_LABELS])?;
         let labels = optional::<Labels>(alloc, v, MATCH_LABELS, at)?;
         Ok(labels.unwrap_or(List::new(alloc)))
     }

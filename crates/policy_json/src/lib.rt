@@ -3,33 +3,25 @@
 #![tactic(auto)]
 
 mod authorization;
-#[cfg(test)]
-mod authorization_tests;
 mod condition_keys;
 mod conditions;
-mod jwt_rule;
+mod jwt_rules;
 mod key_sets;
 mod labels;
-mod limits;
 mod operations;
 mod peer;
-#[cfg(test)]
-mod refusal_tests;
+mod ports;
 mod request;
-#[cfg(test)]
-mod request_tests;
-#[cfg(test)]
-mod rule_tests;
 mod rules;
 mod sources;
 mod target_refs;
-#[cfg(test)]
-mod tests;
 mod texts;
 mod token_places;
 mod values;
+mod words;
 
 pub use authorization::{read_authorization, read_authorization_at};
 pub use labels::{Labels, read_labels};
 pub use peer::{read_peer, read_peer_at};
 pub use request::{read_request, read_request_at};
+pub use words::{authorization_words, condition_key_words, peer_words, request_words, rule_words};

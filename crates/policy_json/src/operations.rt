@@ -1,14 +1,12 @@
+// What a request asks for: the operation of a rule.
 ghost use Rattle.policy_json.specs.Operations.{operation_faults, operation_in};
 
-use crate::limits::MOST;
 use crate::texts::ShortText;
 use crate::values::{PathValue, PortValue};
 use mesh_doc::{DocError, Form, Spot, listed};
-use mesh_policy::OperationSpec;
+use mesh_policy::{MOST_ENTRIES, OperationSpec};
 use serde_json::Value;
 use std::alloc::Global;
-
-const OPERATION_FIELDS: &str = "hosts methods notHosts notMethods notPaths notPorts paths ports";
 
 const HOSTS: &str = "hosts";
 
@@ -38,15 +36,28 @@ impl Form for Operation {
 
     #[tactic(auto, unfolding(crate::specs::Operations::operation_faults, crate::specs::Operations::operation_in))]
     fn read(alloc: Global, v: &Value, at: &Spot) -> Result<OperationSpec, DocError> {
-        at.only_fields(alloc, v, OPERATION_FIELDS)?;
-        let hosts = listed::<ShortText>(alloc, v, HOSTS, MOST, at)?;
-        let not_hosts = listed::<ShortText>(alloc, v, NOT_HOSTS, MOST, at)?;
-        let ports = listed::<PortValue>(alloc, v, PORTS, MOST, at)?;
-        let not_ports = listed::<PortValue>(alloc, v, NOT_PORTS, MOST, at)?;
-        let methods = listed::<ShortText>(alloc, v, METHODS, MOST, at)?;
-        let not_methods = listed::<ShortText>(alloc, v, NOT_METHODS, MOST, at)?;
-        let paths = listed::<PathValue>(alloc, v, PATHS, MOST, at)?;
-        let not_paths = listed::<PathValue>(alloc, v, NOT_PATHS, MOST, at)?;
+        at.only_fields(
+            alloc,
+            v,
+            &[
+                HOSTS,
+                NOT_HOSTS,
+                PORTS,
+                NOT_PORTS,
+                METHODS,
+                NOT_METHODS,
+                PATHS,
+                NOT_PATHS,
+            ],
+        )?;
+        let hosts = listed::<ShortText>(alloc, v, HOSTS, MOST_ENTRIES, at)?;
+        let not_hosts = listed::<ShortText>(alloc, v, NOT_HOSTS, MOST_ENTRIES, at)?;
+        let ports = listed::<PortValue>(alloc, v, PORTS, MOST_ENTRIES, at)?;
+        let not_ports = listed::<PortValue>(alloc, v, NOT_PORTS, MOST_ENTRIES, at)?;
+        let methods = listed::<ShortText>(alloc, v, METHODS, MOST_ENTRIES, at)?;
+        let not_methods = listed::<ShortText>(alloc, v, NOT_METHODS, MOST_ENTRIES, at)?;
+        let paths = listed::<PathValue>(alloc, v, PATHS, MOST_ENTRIES, at)?;
+        let not_paths = listed::<PathValue>(alloc, v, NOT_PATHS, MOST_ENTRIES, at)?;
         Ok(OperationSpec {
             hosts,
             not_hosts,

@@ -1,17 +1,21 @@
-ghost use Rattle.std.specs.Prelude.{◌≡◌, option_map};
+// The `spec` of a PeerAuthentication.
+ghost use Rattle.std.specs.Prelude.{◌≡◌, IfOk, IsTrue, option_map};
+ghost use Rattle.std.specs.Option.{ForSome};
 ghost use Rattle.serde_json.specs.View.{view};
 ghost use Rattle.mesh_doc.specs.Faults.{Reads};
-ghost use Rattle.policy_json.specs.Peer.{mode_faults, mode_in, mtls_faults, mtls_in, mode_of, port_of, port_faults, port_in, ports_faults, ports_in, peer_faults, peer_in};
-ghost use Rattle.policy_json.specs.Spec.{spec_of};
+ghost use Rattle.mesh_doc.specs.Fields.{spec_of, unless_null};
+ghost use Rattle.mesh_policy.specs.AcceptedBundle.{AcceptedPeer};
+ghost use Rattle.mesh_text.specs.Dns.{is_label, is_subdomain};
+ghost use Rattle.mesh_text.specs.Time.{is_time};
+ghost use Rattle.policy_json.specs.Peer.{mode_faults, mode_in, mtls_faults, mtls_in, mode_of, port_faults, port_in, ports_faults, ports_in, peer_faults, peer_in};
 
 use crate::labels::{SELECTOR, Selector};
-use mesh_doc::{DocError, Entry, Form, Place, Reason, Spot, members, optional};
+use crate::ports::port_named;
+use mesh_doc::{DocError, Entry, Form, Place, Reason, Spot, empty_object, members, optional};
 use mesh_policy::{Mode, PeerAuthentication, PortMode};
-use mesh_text::{List, Text, decimal};
-use serde_json::{Map, Value};
+use mesh_text::{List, Text};
+use serde_json::Value;
 use std::alloc::Global;
-
-const PEER_FIELDS: &str = "mtls portLevelMtls selector";
 
 const MTLS: &str = "mtls";
 
@@ -37,21 +41,14 @@ pub fn read_peer_at(
     spec: Option<&Value>,
     at: &Spot,
 ) -> Result<PeerAuthentication, DocError>
-    ensures { Reads result
+    ensures reads { Reads result
         (peer_faults (spec_of (option_map (λ v. view v.now) spec.entry)) at.now)
         (peer_in name namespace age (spec_of (option_map (λ v. view v.now) spec.entry))) }
+    ensures accepted { IsTrue (is_subdomain name) → IsTrue (is_label namespace) → ForSome age (λ time. IsTrue (is_time time))
+        → IfOk result AcceptedPeer }
 {
-    match spec {
-        Some(v) => read_spec(alloc, name, namespace, age, v, at),
-        None => read_spec(
-            alloc,
-            name,
-            namespace,
-            age,
-            &Value::Object(Map::new(alloc)),
-            at,
-        ),
-    }
+    let empty = empty_object(alloc);
+    read_spec(alloc, name, namespace, age, spec.unwrap_or(&empty), at)
 }
 
 /// As `read_peer_at`, of the `spec` at `place`.
@@ -63,9 +60,11 @@ pub fn read_peer(
     spec: Option<&Value>,
     place: &Place,
 ) -> Result<PeerAuthentication, DocError>
-    ensures { Reads result
+    ensures reads { Reads result
         (peer_faults (spec_of (option_map (λ v. view v.now) spec.entry)) place.now)
         (peer_in name namespace age (spec_of (option_map (λ v. view v.now) spec.entry))) }
+    ensures accepted { IsTrue (is_subdomain name) → IsTrue (is_label namespace) → ForSome age (λ time. IsTrue (is_time time))
+        → IfOk result AcceptedPeer }
 {
     read_peer_at(alloc, name, namespace, age, spec, &Spot::of(place))
 }
@@ -83,7 +82,7 @@ fn read_spec(
         (peer_faults (view v.now) at.now)
         (peer_in name namespace age (view v.now)) }
 {
-    at.only_fields(alloc, v, PEER_FIELDS)?;
+    at.only_fields(alloc, v, &[SELECTOR, MTLS, PORT_LEVEL_MTLS])?;
     let labels = optional::<Selector>(alloc, v, SELECTOR, at)?;
     let mode = optional::<Mtls>(alloc, v, MTLS, at)?;
     let ports = optional::<Ports>(alloc, v, PORT_LEVEL_MTLS, at)?;
@@ -148,7 +147,7 @@ impl Form for Mtls {
 
     #[tactic(auto, unfolding(crate::specs::Peer::mtls_faults, crate::specs::Peer::mtls_in))]
     fn read(alloc: Global, v: &Value, at: &Spot) -> Result<Option<Mode>, DocError> {
-        at.only_fields(alloc, v, MODE)?;
+        at.only_fields(alloc, v, &[MODE])?;
         let mode = optional::<ModeWord>(alloc, v, MODE, at)?;
         Ok(mode.unwrap_or(None))
     }
@@ -168,26 +167,21 @@ impl Entry for PortEntry {
         let Some(port) = port_named(key) else {
             return Err(at.refuse(alloc, Reason::BadPort));
         };
-        match v {
-            Value::Null => Ok(PortMode {
-                port,
-                mode: Mtls::read(alloc, &Value::Object(Map::new(alloc)), at)?,
-            }),
-            _ => Ok(PortMode {
-                port,
-                mode: Mtls::read(alloc, v, at)?,
-            }),
-        }
+        let empty = empty_object(alloc);
+        let mtls = unless_null(v).unwrap_or(&empty);
+        Ok(PortMode {
+            port,
+            mode: Mtls::read(alloc, mtls, at)?,
+        })
     }
 }
 
-/// The port that a text is: from 1 to 65,535, in decimal without leading zeros.
-pub(crate) fn port_named(key: &str) -> Option<u16>
-    ensures { result ≡ port_of key.now }
+fn unless_null(v: &Value) -> Option<&Value>
+    ensures { option_map (λ x. view x.now) result ≡ unless_null (view v.now) }
 {
-    match decimal(key) {
-        Some(port) if port > 0 => Some(port),
-        _ => None,
+    match v {
+        Value::Null => None,
+        found => Some(found),
     }
 }
 

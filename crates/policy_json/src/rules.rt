@@ -1,17 +1,13 @@
-ghost use Rattle.serde_json.specs.View.{view};
-ghost use Rattle.mesh_doc.specs.Faults.{Reads};
-ghost use Rattle.policy_json.specs.Rules.{from_faults, from_in, part_faults, part_in, rule_faults, rule_in, to_faults, to_in};
+// The rules of an AuthorizationPolicy.
+ghost use Rattle.policy_json.specs.Rules.{from_faults, from_in, rule_faults, rule_in, to_faults, to_in};
 
 use crate::conditions::WhenEntry;
-use crate::limits::MOST;
 use crate::operations::Operation;
 use crate::sources::Source;
-use mesh_doc::{DocError, Form, Spot, field, listed};
-use mesh_policy::{OperationSpec, Rule, SourceSpec};
-use serde_json::{Map, Value};
+use mesh_doc::{DocError, Form, Spot, listed, or_empty};
+use mesh_policy::{MOST_ENTRIES, OperationSpec, Rule, SourceSpec};
+use serde_json::Value;
 use std::alloc::Global;
-
-const RULE_FIELDS: &str = "from to when";
 
 const FROM: &str = "from";
 
@@ -35,10 +31,10 @@ impl Form for RuleEntry {
 
     #[tactic(auto, unfolding(crate::specs::Rules::rule_faults, crate::specs::Rules::rule_in))]
     fn read(alloc: Global, v: &Value, at: &Spot) -> Result<Rule, DocError> {
-        at.only_fields(alloc, v, RULE_FIELDS)?;
-        let sources = listed::<FromEntry>(alloc, v, FROM, MOST, at)?;
-        let operations = listed::<ToEntry>(alloc, v, TO, MOST, at)?;
-        let conditions = listed::<WhenEntry>(alloc, v, WHEN, MOST, at)?;
+        at.only_fields(alloc, v, &[FROM, TO, WHEN])?;
+        let sources = listed::<FromEntry>(alloc, v, FROM, MOST_ENTRIES, at)?;
+        let operations = listed::<ToEntry>(alloc, v, TO, MOST_ENTRIES, at)?;
+        let conditions = listed::<WhenEntry>(alloc, v, WHEN, MOST_ENTRIES, at)?;
         Ok(Rule {
             sources,
             operations,
@@ -58,8 +54,8 @@ impl Form for FromEntry {
 
     #[tactic(auto, unfolding(crate::specs::Rules::from_faults, crate::specs::Rules::from_in))]
     fn read(alloc: Global, v: &Value, at: &Spot) -> Result<SourceSpec, DocError> {
-        at.only_fields(alloc, v, SOURCE)?;
-        part::<Source>(alloc, v, SOURCE, at)
+        at.only_fields(alloc, v, &[SOURCE])?;
+        or_empty::<Source>(alloc, v, SOURCE, at)
     }
 }
 
@@ -74,21 +70,7 @@ impl Form for ToEntry {
 
     #[tactic(auto, unfolding(crate::specs::Rules::to_faults, crate::specs::Rules::to_in))]
     fn read(alloc: Global, v: &Value, at: &Spot) -> Result<OperationSpec, DocError> {
-        at.only_fields(alloc, v, OPERATION)?;
-        part::<Operation>(alloc, v, OPERATION, at)
-    }
-}
-
-// The field `name`, with one that is not there as the empty object.
-#[tactic(auto, unfolding(crate::specs::Rules::part_faults, crate::specs::Rules::part_in))]
-fn part<F: Form>(alloc: Global, v: &Value, name: &str, at: &Spot) -> Result<F::Out, DocError>
-    ensures { Reads result
-        (part_faults name.now F.faults (view v.now) at.now)
-        (part_in name.now F.value (view v.now)) }
-{
-    let at = Spot::key(at, name);
-    match field(v, name) {
-        Some(found) => F::read(alloc, found, &at),
-        None => F::read(alloc, &Value::Object(Map::new(alloc)), &at),
+        at.only_fields(alloc, v, &[OPERATION])?;
+        or_empty::<Operation>(alloc, v, OPERATION, at)
     }
 }

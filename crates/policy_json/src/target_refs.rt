@@ -1,3 +1,4 @@
+// The fields by which a policy names what it holds for; here they may name nothing.
 ghost use Rattle.std.specs.Prelude.{◌≡◌};
 ghost use Rattle.serde_json.specs.View.{view, items_view};
 ghost use Rattle.mesh_doc.specs.Faults.{Reads};
@@ -7,9 +8,9 @@ use mesh_doc::{DocError, Form, Reason, Spot, optional};
 use serde_json::Value;
 use std::alloc::Global;
 
-const TARGET_REFS: &str = "targetRefs";
+pub(crate) const TARGET_REFS: &str = "targetRefs";
 
-const TARGET_REF: &str = "targetRef";
+pub(crate) const TARGET_REF: &str = "targetRef";
 
 /// Reads the fields `targetRefs` and `targetRef` of the policy `v` at `at`, which name no target: TargetRefs at
 /// the first with a value other than `null` and the empty list (Istio reference, PolicyTargetReference).

@@ -1,53 +1,50 @@
+// Texts that pass a test: bounds of length, and names that are kept in lower case.
 ghost use Rattle.std.specs.Prelude.{◌≡◌, IfOk};
-ghost use Rattle.mesh_doc.specs.Kinds.{text_in};
-ghost use Rattle.policy_json.specs.Texts.{bounded_text_faults, is_bounded, is_name, is_short, lower_name_faults, lower_name_in, lowered, short_text_faults};
+ghost use Rattle.mesh_doc.specs.declared.reason.Reason.TheVariants.{BadName, BadValue};
+ghost use Rattle.mesh_policy.specs.Values.{is_bounded, is_name, is_short, lowered};
+ghost use Rattle.policy_json.specs.Texts.{lower_name_faults, lower_name_in};
 
-use mesh_doc::{DocError, Form, Reason, Spot};
+use mesh_doc::{DocError, Form, Reason, Spot, Tested, TextTest};
+use mesh_policy::MOST_VALUE_BYTES;
 use mesh_text::{Memory, Text, is_token};
 use serde_json::Value;
 use std::alloc::Global;
 
 /// A text of 1 to 1,024 bytes: BadValue for another length.
-pub(crate) struct ShortText;
+pub(crate) type ShortText = Tested<IsShort>;
 
-impl Form for ShortText {
-    type Out = Text;
+pub(crate) struct IsShort;
 
-    ghost faults = { short_text_faults };
+impl TextTest for IsShort {
+    ghost passes = { is_short };
 
-    ghost value = { text_in };
+    ghost reason = { BadValue };
 
-    #[tactic(auto, unfolding(crate::specs::Texts::short_text_faults, mesh_doc::specs::Kinds::text_faults, mesh_doc::specs::Kinds::text_in))]
-    fn read(alloc: Global, v: &Value, at: &Spot) -> Result<Text, DocError> {
-        let Value::String(text) = v else {
-            return Err(at.refuse(alloc, Reason::WrongType));
-        };
-        if !is_short(text.as_str()) {
-            return Err(at.refuse(alloc, Reason::BadValue));
-        }
-        Ok(Text::of(alloc, text.as_str())?)
+    fn passes(text: &str) -> bool {
+        is_short(text)
+    }
+
+    fn reason() -> Reason {
+        Reason::BadValue
     }
 }
 
 /// A text of at most 1,024 bytes: BadValue for a longer one.
-pub(crate) struct BoundedText;
+pub(crate) type BoundedText = Tested<IsBounded>;
 
-impl Form for BoundedText {
-    type Out = Text;
+pub(crate) struct IsBounded;
 
-    ghost faults = { bounded_text_faults };
+impl TextTest for IsBounded {
+    ghost passes = { is_bounded };
 
-    ghost value = { text_in };
+    ghost reason = { BadValue };
 
-    #[tactic(auto, unfolding(crate::specs::Texts::bounded_text_faults, mesh_doc::specs::Kinds::text_faults, mesh_doc::specs::Kinds::text_in))]
-    fn read(alloc: Global, v: &Value, at: &Spot) -> Result<Text, DocError> {
-        let Value::String(text) = v else {
-            return Err(at.refuse(alloc, Reason::WrongType));
-        };
-        if !is_bounded(text.as_str()) {
-            return Err(at.refuse(alloc, Reason::BadValue));
-        }
-        Ok(Text::of(alloc, text.as_str())?)
+    fn passes(text: &str) -> bool {
+        is_bounded(text)
+    }
+
+    fn reason() -> Reason {
+        Reason::BadValue
     }
 }
 
@@ -61,15 +58,26 @@ impl Form for LowerName {
 
     ghost value = { lower_name_in };
 
-    #[tactic(auto, unfolding(crate::specs::Texts::lower_name_faults, crate::specs::Texts::lower_name_in, mesh_doc::specs::Kinds::text_faults, mesh_doc::specs::Kinds::text_in))]
+    #[tactic(auto, unfolding(crate::specs::Texts::lower_name_in))]
     fn read(alloc: Global, v: &Value, at: &Spot) -> Result<Text, DocError> {
-        let Value::String(text) = v else {
-            return Err(at.refuse(alloc, Reason::WrongType));
-        };
-        if !is_name(text.as_str()) {
-            return Err(at.refuse(alloc, Reason::BadName));
-        }
-        Ok(lower(alloc, text.as_str())?)
+        let name = Tested::<IsName>::read(alloc, v, at)?;
+        Ok(lower(alloc, &name)?)
+    }
+}
+
+struct IsName;
+
+impl TextTest for IsName {
+    ghost passes = { is_name };
+
+    ghost reason = { BadName };
+
+    fn passes(text: &str) -> bool {
+        is_name(text)
+    }
+
+    fn reason() -> Reason {
+        Reason::BadName
     }
 }
 
@@ -91,9 +99,10 @@ pub(crate) fn is_short(text: &str) -> bool
 pub(crate) fn is_bounded(text: &str) -> bool
     ensures { result ≡ is_bounded text.now }
 {
-    text.len() <= 1024
+    text.len() <= MOST_VALUE_BYTES
 }
 
+/// Whether a text is a token of at most 1,024 bytes.
 pub(crate) fn is_name(text: &str) -> bool
     ensures { result ≡ is_name text.now }
 {

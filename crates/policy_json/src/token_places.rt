@@ -1,4 +1,5 @@
-ghost use Rattle.std.specs.Prelude.{◌≡◌, ◌++◌, IfOk};
+// Where a rule finds its tokens: headers, and then parameters.
+ghost use Rattle.std.specs.Prelude.{◌≡◌, IfOk};
 ghost use Rattle.policy_json.specs.TokenPlaces.{default_places, header_faults, header_in, param_faults, param_in, places_of};
 
 use crate::texts::{BoundedText, LowerName, ShortText};
@@ -7,8 +8,6 @@ use mesh_policy::TokenPlace;
 use mesh_text::{List, Memory, Text};
 use serde_json::Value;
 use std::alloc::Global;
-
-const HEADER_FIELDS: &str = "name prefix";
 
 const NAME: &str = "name";
 
@@ -32,7 +31,7 @@ impl Form for FromHeader {
 
     #[tactic(auto, unfolding(crate::specs::TokenPlaces::header_faults, crate::specs::TokenPlaces::header_in))]
     fn read(alloc: Global, v: &Value, at: &Spot) -> Result<TokenPlace, DocError> {
-        at.only_fields(alloc, v, HEADER_FIELDS)?;
+        at.only_fields(alloc, v, &[NAME, PREFIX])?;
         let name = required::<LowerName>(alloc, v, NAME, at)?;
         let prefix = match optional::<BoundedText>(alloc, v, PREFIX, at)? {
             Some(prefix) => prefix,
@@ -67,19 +66,10 @@ pub(crate) fn places_of(
 ) -> Result<List<TokenPlace>, Memory>
     ensures { IfOk result (λ places. places ≡ places_of headers params) }
 {
-    let places = joined(headers, params)?;
-    if places.as_slice().is_empty() {
-        return default_places(alloc);
-    }
-    Ok(places)
-}
-
-fn joined(headers: List<TokenPlace>, params: List<TokenPlace>) -> Result<List<TokenPlace>, Memory>
-    ensures { IfOk result (λ places. places ≡ headers ++ params) }
-{
     let mut places = headers;
-    for param in params.into_vec() {
-        places.push(param)?;
+    places.append(params)?;
+    if places.is_empty() {
+        return default_places(alloc);
     }
     Ok(places)
 }

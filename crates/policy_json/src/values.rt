@@ -1,12 +1,14 @@
+// The values of the lists of an AuthorizationPolicy, each in its form.
 ghost use Rattle.std.specs.Prelude.{◌≡◌};
 ghost use Rattle.mesh_doc.specs.Kinds.{text_in};
-ghost use Rattle.policy_json.specs.Values.{block_faults, block_in, has_few_slashes, has_operator, is_path, path_faults, port_value_faults, port_value_in, request_principal_faults};
+ghost use Rattle.mesh_policy.specs.Values.{has_few_slashes, has_operator, is_path};
+ghost use Rattle.policy_json.specs.Values.{block_faults, block_in, path_faults, port_value_faults, port_value_in, request_principal_faults};
 
-use crate::peer::port_named;
-use crate::texts::{ShortText, is_short};
+use crate::ports::port_named;
+use crate::texts::ShortText;
 use mesh_doc::{DocError, Form, Reason, Spot};
 use mesh_net::{Cidr, parse_cidr};
-use mesh_policy::Template;
+use mesh_policy::{MOST_SLASHES, Template};
 use mesh_text::{Text, contains};
 use serde_json::Value;
 use std::alloc::Global;
@@ -22,15 +24,10 @@ impl Form for PortValue {
 
     ghost value = { port_value_in };
 
-    #[tactic(auto, unfolding(crate::specs::Values::port_value_faults, crate::specs::Values::port_value_in, crate::specs::Texts::short_text_faults, mesh_doc::specs::Kinds::text_faults, mesh_doc::specs::Kinds::text_in))]
+    #[tactic(auto, unfolding(crate::specs::Values::port_value_faults, crate::specs::Values::port_value_in))]
     fn read(alloc: Global, v: &Value, at: &Spot) -> Result<u16, DocError> {
-        let Value::String(text) = v else {
-            return Err(at.refuse(alloc, Reason::WrongType));
-        };
-        if !is_short(text.as_str()) {
-            return Err(at.refuse(alloc, Reason::BadValue));
-        }
-        match port_named(text.as_str()) {
+        let text = ShortText::read(alloc, v, at)?;
+        match port_named(&text) {
             Some(port) => Ok(port),
             None => Err(at.refuse(alloc, Reason::BadPort)),
         }
@@ -47,15 +44,10 @@ impl Form for BlockValue {
 
     ghost value = { block_in };
 
-    #[tactic(auto, unfolding(crate::specs::Values::block_faults, crate::specs::Values::block_in, crate::specs::Texts::short_text_faults, mesh_doc::specs::Kinds::text_faults, mesh_doc::specs::Kinds::text_in))]
+    #[tactic(auto, unfolding(crate::specs::Values::block_faults, crate::specs::Values::block_in))]
     fn read(alloc: Global, v: &Value, at: &Spot) -> Result<Cidr, DocError> {
-        let Value::String(text) = v else {
-            return Err(at.refuse(alloc, Reason::WrongType));
-        };
-        if !is_short(text.as_str()) {
-            return Err(at.refuse(alloc, Reason::BadValue));
-        }
-        match parse_cidr(text.as_str()) {
+        let text = ShortText::read(alloc, v, at)?;
+        match parse_cidr(&text) {
             Some(block) => Ok(block),
             None => Err(at.refuse(alloc, Reason::BadCidr)),
         }
@@ -76,7 +68,7 @@ impl Form for RequestPrincipal {
     #[tactic(auto, unfolding(crate::specs::Values::request_principal_faults))]
     fn read(alloc: Global, v: &Value, at: &Spot) -> Result<Text, DocError> {
         let text = ShortText::read(alloc, v, at)?;
-        if !has_few_slashes(text.as_str()) {
+        if !has_few_slashes(&text) {
             return Err(at.refuse(alloc, Reason::TooManySlashes));
         }
         Ok(text)
@@ -86,7 +78,7 @@ impl Form for RequestPrincipal {
 fn has_few_slashes(text: &str) -> bool
     ensures { result ≡ has_few_slashes text.now }
 {
-    let mut left: u32 = 8;
+    let mut left = MOST_SLASHES;
     for c in text.as_bytes() {
         if *c == b'/' {
             if left == 0 {
@@ -111,7 +103,7 @@ impl Form for PathValue {
     #[tactic(auto, unfolding(crate::specs::Values::path_faults))]
     fn read(alloc: Global, v: &Value, at: &Spot) -> Result<Text, DocError> {
         let text = ShortText::read(alloc, v, at)?;
-        if !is_path(text.as_str()) {
+        if !is_path(&text) {
             return Err(at.refuse(alloc, Reason::BadTemplate));
         }
         Ok(text)

@@ -1,19 +1,20 @@
+// The rules of a RequestAuthentication.
 ghost use Rattle.std.specs.Prelude.{◌≡◌};
-ghost use Rattle.policy_json.specs.Request.{is_empty_or_name, payload_header_faults, rule_faults, rule_in};
+ghost use Rattle.mesh_doc.specs.declared.reason.Reason.TheVariants.{BadName, BadValue};
+ghost use Rattle.mesh_policy.specs.Values.{is_key_set};
+ghost use Rattle.policy_json.specs.JwtRules.{is_empty_or_name, jwt_rule_faults, jwt_rule_in, payload_header_faults};
 ghost use Rattle.policy_json.specs.Texts.{lower_name_in};
 
-use crate::key_sets::{KeySetText, keys_of, unless_empty};
-use crate::limits::MOST;
+use crate::key_sets::{keys_of, unless_empty};
 use crate::texts::{BoundedText, ShortText, is_name, lower};
 use crate::token_places::{FromHeader, FromParam, places_of};
-use mesh_doc::{AnyTruth, DocError, Form, Reason, Spot, listed, optional, required};
-use mesh_policy::JwtRule;
+use mesh_doc::{
+    AnyTruth, DocError, Form, Reason, Spot, Tested, TextTest, listed, optional, required,
+};
+use mesh_policy::{JwtRule, MOST_ENTRIES, MOST_KEY_SET_BYTES};
 use mesh_text::Text;
 use serde_json::Value;
 use std::alloc::Global;
-
-const RULE_FIELDS: &str =
-    "audiences forwardOriginalToken fromHeaders fromParams issuer jwks jwksUri outputPayloadToHeader";
 
 const ISSUER: &str = "issuer";
 
@@ -38,19 +39,32 @@ pub(crate) struct RuleForm;
 impl Form for RuleForm {
     type Out = JwtRule;
 
-    ghost faults = { rule_faults };
+    ghost faults = { jwt_rule_faults };
 
-    ghost value = { rule_in };
+    ghost value = { jwt_rule_in };
 
-    #[tactic(auto, unfolding(crate::specs::Request::rule_faults, crate::specs::Request::rule_in))]
+    #[tactic(auto, unfolding(crate::specs::JwtRules::jwt_rule_faults, crate::specs::JwtRules::jwt_rule_in))]
     fn read(alloc: Global, v: &Value, at: &Spot) -> Result<JwtRule, DocError> {
-        at.only_fields(alloc, v, RULE_FIELDS)?;
+        at.only_fields(
+            alloc,
+            v,
+            &[
+                ISSUER,
+                AUDIENCES,
+                JWKS_URI,
+                JWKS,
+                FROM_HEADERS,
+                FROM_PARAMS,
+                FORWARD,
+                PAYLOAD_HEADER,
+            ],
+        )?;
         let issuer = required::<ShortText>(alloc, v, ISSUER, at)?;
-        let audiences = listed::<ShortText>(alloc, v, AUDIENCES, MOST, at)?;
+        let audiences = listed::<ShortText>(alloc, v, AUDIENCES, MOST_ENTRIES, at)?;
         let uri = optional::<BoundedText>(alloc, v, JWKS_URI, at)?;
-        let set = optional::<KeySetText>(alloc, v, JWKS, at)?;
-        let headers = listed::<FromHeader>(alloc, v, FROM_HEADERS, MOST, at)?;
-        let params = listed::<FromParam>(alloc, v, FROM_PARAMS, MOST, at)?;
+        let set = optional::<Tested<IsKeySet>>(alloc, v, JWKS, at)?;
+        let headers = listed::<FromHeader>(alloc, v, FROM_HEADERS, MOST_ENTRIES, at)?;
+        let params = listed::<FromParam>(alloc, v, FROM_PARAMS, MOST_ENTRIES, at)?;
         let forward = optional::<AnyTruth>(alloc, v, FORWARD, at)?;
         let payload_header = optional::<PayloadHeader>(alloc, v, PAYLOAD_HEADER, at)?;
         let Some(keys) = keys_of(unless_empty(uri), unless_empty(set)) else {
@@ -67,6 +81,22 @@ impl Form for RuleForm {
     }
 }
 
+struct IsKeySet;
+
+impl TextTest for IsKeySet {
+    ghost passes = { is_key_set };
+
+    ghost reason = { BadValue };
+
+    fn passes(text: &str) -> bool {
+        text.len() <= MOST_KEY_SET_BYTES
+    }
+
+    fn reason() -> Reason {
+        Reason::BadValue
+    }
+}
+
 // The name of a header in lower case, or an empty text.
 struct PayloadHeader;
 
@@ -77,15 +107,26 @@ impl Form for PayloadHeader {
 
     ghost value = { lower_name_in };
 
-    #[tactic(auto, unfolding(crate::specs::Request::payload_header_faults, crate::specs::Texts::lower_name_in, mesh_doc::specs::Kinds::text_faults, mesh_doc::specs::Kinds::text_in))]
+    #[tactic(auto, unfolding(crate::specs::Texts::lower_name_in))]
     fn read(alloc: Global, v: &Value, at: &Spot) -> Result<Text, DocError> {
-        let Value::String(text) = v else {
-            return Err(at.refuse(alloc, Reason::WrongType));
-        };
-        if !is_empty_or_name(text.as_str()) {
-            return Err(at.refuse(alloc, Reason::BadName));
-        }
-        Ok(lower(alloc, text.as_str())?)
+        let name = Tested::<IsEmptyOrName>::read(alloc, v, at)?;
+        Ok(lower(alloc, &name)?)
+    }
+}
+
+struct IsEmptyOrName;
+
+impl TextTest for IsEmptyOrName {
+    ghost passes = { is_empty_or_name };
+
+    ghost reason = { BadName };
+
+    fn passes(text: &str) -> bool {
+        is_empty_or_name(text)
+    }
+
+    fn reason() -> Reason {
+        Reason::BadName
     }
 }
 

@@ -1,0 +1,194 @@
+-- The rules of an AuthorizationPolicy without fault are accepted.
+use Rattle.std.proofs.Common.{◌≡◌, ℕ, ◌+◌, ◌<◌, ◌==◌, ◌&&◌, Bool, true, false, not, List, length, refl}
+use Rattle.std.proofs.Common.{sym, arith, None, is_some, IsTrue, subst, ◌⊎◌, inl, inr}
+use Rattle.std.specs.Bool.{⊤}
+use Rattle.std.proofs.lemmas.Bool.{and_cases, and_from, eqb-false, not-true}
+use Rattle.serde_json.specs.Data.{Data}
+use Rattle.mesh_doc.proofs.NoFault as no_fault
+use Rattle.mesh_doc.proofs.NoFault.{Ensures, ◌⨾⨾◌, anything, earlier, later, passed, strict_object}
+use Rattle.mesh_doc.specs.Faults.{Check, first}
+use Rattle.mesh_doc.specs.Fields.{required_in}
+use Rattle.mesh_doc.specs.Kinds.{text_in}
+use Rattle.mesh_doc.specs.Lists.{listed, listed_in}
+use Rattle.mesh_doc.specs.Places.{Steps}
+use Rattle.mesh_doc.specs.declared.reason.Reason.TheVariants as reason
+use Rattle.mesh_policy.specs.AcceptedLists.{AcceptedList}
+use Rattle.mesh_policy.specs.AcceptedRules.{AcceptedCondition, AcceptedOperation, AcceptedRule, AcceptedSource, is_value_of}
+use Rattle.mesh_policy.specs.Values.{has_few_slashes, is_path, is_path_value, is_port, is_request_principal, is_short}
+use Rattle.policy_json.proofs.AcceptedKeys.{IsKey, key_ensures}
+use Rattle.policy_json.proofs.PortTexts.{port_there}
+use Rattle.policy_json.specs.ConditionKeys.{key_in}
+use Rattle.policy_json.specs.Conditions.{both_faults, condition_faults, condition_in, has_entries, values_faults, values_in}
+use Rattle.policy_json.specs.Operations.{operation_faults, operation_in}
+use Rattle.policy_json.specs.Ports.{port_of}
+use Rattle.policy_json.specs.Rules.{from_faults, from_in, rule_faults, rule_in, to_faults, to_in}
+use Rattle.policy_json.specs.Sources.{source_faults, source_in}
+use Rattle.policy_json.specs.Texts.{short_text_faults}
+use Rattle.policy_json.specs.Values.{block_faults, block_in, path_faults, port_value_faults, port_value_in, request_principal_faults}
+use Rattle.policy_json.specs.declared.condition_keys.ConditionKey.{ConditionKey}
+use Rattle.policy_json.specs.declared.condition_keys.ConditionKey.TheVariants as key
+use Rattle.policy_json.specs.declared.conditions.TheConstants.{KEY, NOT_VALUES, VALUES}
+use Rattle.policy_json.specs.declared.operations.TheConstants.{HOSTS, METHODS, NOT_HOSTS, NOT_METHODS, NOT_PATHS, NOT_PORTS, PATHS, PORTS}
+use Rattle.policy_json.specs.declared.rules.TheConstants.{FROM, OPERATION, SOURCE, TO, WHEN}
+use Rattle.policy_json.specs.declared.sources.TheConstants.{IP_BLOCKS, NAMESPACES, NOT_IP_BLOCKS, NOT_NAMESPACES}
+use Rattle.policy_json.specs.declared.sources.TheConstants.{NOT_PRINCIPALS, NOT_REMOTE_IP_BLOCKS}
+use Rattle.policy_json.specs.declared.sources.TheConstants.{NOT_REQUEST_PRINCIPALS, PRINCIPALS, REMOTE_IP_BLOCKS}
+use Rattle.policy_json.specs.declared.sources.TheConstants.{REQUEST_PRINCIPALS}
+
+-- a list of a manifest
+pub entries : {A : Type 0} {f : Check} {value : Data → A} {P : A → Type 0} (name : List ℕ) → Ensures f value P
+    → Ensures (listed name 2048 f) (listed_in name value) (AcceptedList P)
+entries name e = record {
+  holds = λ d at h. let each =
+      (no_fault.listed name 2048 e).holds d at h in record { few = each.few; each = each.each };
+}
+
+-- ---- values
+
+pub short_ensures : Ensures short_text_faults text_in (λ t. IsTrue (is_short t))
+short_ensures = no_fault.tested is_short reason.BadValue
+
+port_ensures : Ensures port_value_faults port_value_in (λ n. IsTrue (is_port n))
+unfolding port_value_faults port_value_in
+port_ensures = record {
+  holds = λ d at h. (port_there (text_in d) (port_of (text_in d)) refl (passed (is_some (port_of
+      (text_in d))) _ at (later _ _ h))).1;
+}
+
+block_ensures : Ensures block_faults block_in (λ _. ⊤)
+block_ensures = anything
+
+principal_ensures : Ensures request_principal_faults text_in (λ t. IsTrue (is_request_principal t))
+unfolding request_principal_faults
+principal_ensures = record {
+  holds = λ d at h. and_from _ _ (short_ensures.holds d at (earlier _ _ h)) (passed (has_few_slashes
+      (text_in d)) _ at (later _ _ h));
+}
+
+path_ensures : Ensures path_faults text_in (λ t. IsTrue (is_path_value t))
+unfolding path_faults
+path_ensures = record {
+  holds = λ d at h. and_from _ _ (short_ensures.holds d at (earlier _ _ h)) (passed (is_path
+      (text_in d)) _ at (later _ _ h));
+}
+
+-- ---- sources and operations
+
+source_ensures : Ensures source_faults source_in AcceptedSource
+unfolding source_faults source_in
+source_ensures = strict_object _ (record {
+  holds = λ d at h.
+      let lists = (entries PRINCIPALS.now short_ensures
+      ⨾⨾ entries NOT_PRINCIPALS.now short_ensures
+      ⨾⨾ entries REQUEST_PRINCIPALS.now principal_ensures
+      ⨾⨾ entries NOT_REQUEST_PRINCIPALS.now principal_ensures
+      ⨾⨾ entries NAMESPACES.now short_ensures
+      ⨾⨾ entries NOT_NAMESPACES.now short_ensures
+      ⨾⨾ entries IP_BLOCKS.now block_ensures
+      ⨾⨾ entries NOT_IP_BLOCKS.now block_ensures
+      ⨾⨾ entries REMOTE_IP_BLOCKS.now block_ensures
+      ⨾⨾ entries NOT_REMOTE_IP_BLOCKS.now block_ensures).holds d at h in
+      record {
+        principals = lists.0;
+        not_principals = lists.1.0;
+        request_principals = lists.1.1.0;
+        not_request_principals = lists.1.1.1.0;
+        namespaces = lists.1.1.1.1.0;
+        not_namespaces = lists.1.1.1.1.1.0;
+        ip_blocks = lists.1.1.1.1.1.1.0.few;
+        not_ip_blocks = lists.1.1.1.1.1.1.1.0.few;
+        remote_ip_blocks = lists.1.1.1.1.1.1.1.1.0.few;
+        not_remote_ip_blocks = lists.1.1.1.1.1.1.1.1.1.few;
+      };
+})
+
+operation_ensures : Ensures operation_faults operation_in AcceptedOperation
+unfolding operation_faults operation_in
+operation_ensures = strict_object _ (record {
+  holds = λ d at h.
+      let lists = (entries HOSTS.now short_ensures
+      ⨾⨾ entries NOT_HOSTS.now short_ensures
+      ⨾⨾ entries PORTS.now port_ensures
+      ⨾⨾ entries NOT_PORTS.now port_ensures
+      ⨾⨾ entries METHODS.now short_ensures
+      ⨾⨾ entries NOT_METHODS.now short_ensures
+      ⨾⨾ entries PATHS.now path_ensures
+      ⨾⨾ entries NOT_PATHS.now path_ensures).holds d at h in
+      record {
+        hosts = lists.0;
+        not_hosts = lists.1.0;
+        ports = lists.1.1.0;
+        not_ports = lists.1.1.1.0;
+        methods = lists.1.1.1.1.0;
+        not_methods = lists.1.1.1.1.1.0;
+        paths = lists.1.1.1.1.1.1.0;
+        not_paths = lists.1.1.1.1.1.1.1;
+      };
+})
+
+-- ---- conditions
+
+some_entry : (m n : ℕ) → not ((m == 0) && (n == 0)) ≡ true → 0 < m + n
+some_entry m n h = some_of (and_cases (m == 0) (n == 0) (not-true _ h))
+  where
+    some_of : (m == 0 ≡ false) ⊎ (n == 0 ≡ false) → 0 < m + n
+    some_of (inl e) = let some = eqb-false m 0 e in grind (arith, some)
+    some_of (inr e) = let some = eqb-false n 0 e in grind (arith, some)
+
+-- both lists of a condition
+record AcceptedBoth {A : Type 0} (value : Data → A) (P : A → Type 0) (d : Data) : Type 0 where
+  values : AcceptedList P (listed_in VALUES.now value d)
+  not_values : AcceptedList P (listed_in NOT_VALUES.now value d)
+  written : 0 < length (listed_in VALUES.now value d) + length (listed_in NOT_VALUES.now value d)
+
+both_accepted : {A : Type 0} {f : Check} {value : Data → A} {P : A → Type 0} → Ensures f value P → (d : Data) (at : Steps)
+    → first (both_faults f value d at) ≡ None → AcceptedBoth value P d
+unfolding both_faults
+both_accepted {value = value} e d at h = record {
+  values = (entries VALUES.now e).holds d at (earlier _ _ h);
+  not_values = (entries NOT_VALUES.now e).holds d at (earlier _ _ (later _ _ h));
+  written = some_entry _ _ (passed (has_entries value d) _ at (later _ _ (later _ _ h)));
+}
+
+values_accepted : (k : ConditionKey) → IsKey k → (d : Data) (at : Steps) → first (values_faults k d at) ≡ None
+    → AcceptedCondition (values_in k d)
+values_accepted (key.Words word) is d at h =
+    let both = both_accepted short_ensures d at h in
+    let form : (xs : List (List ℕ)) → AcceptedList (λ t. IsTrue (is_short t)) xs → AcceptedList (λ t. IsTrue (is_value_of word t)) xs
+    = λ xs each. subst (λ (test : List ℕ → Bool). AcceptedList (λ t. IsTrue (test t)) xs) (sym is.values) each in
+    record { key = is.form; values = form _ both.values; not_values = form _ both.not_values; written = both.written }
+values_accepted key.Principals is d at h =
+    let both = both_accepted principal_ensures d at h in
+    record { key = refl; values = both.values; not_values = both.not_values; written = both.written }
+values_accepted (key.Blocks address) is d at h =
+    let both = both_accepted block_ensures d at h in
+    record { values = both.values.few; not_values = both.not_values.few; written = both.written }
+values_accepted key.Ports is d at h =
+    let both = both_accepted port_ensures d at h in
+    record { values = both.values; not_values = both.not_values; written = both.written }
+
+condition_ensures : Ensures condition_faults condition_in AcceptedCondition
+unfolding condition_faults condition_in
+condition_ensures = strict_object _ (record {
+  holds = λ d at h.
+      values_accepted (required_in KEY.now key_in d) ((no_fault.required KEY.now key_ensures).holds d at (earlier _ _ h)) d at
+      (later _ _ h);
+})
+
+-- ---- rules
+
+from_ensures : Ensures from_faults from_in AcceptedSource
+unfolding from_faults from_in
+from_ensures = strict_object _ (no_fault.or_empty SOURCE.now source_ensures)
+
+to_ensures : Ensures to_faults to_in AcceptedOperation
+unfolding to_faults to_in
+to_ensures = strict_object _ (no_fault.or_empty OPERATION.now operation_ensures)
+
+pub rule_ensures : Ensures rule_faults rule_in AcceptedRule
+unfolding rule_faults rule_in
+rule_ensures = strict_object _ (record {
+  holds = λ d at h.
+      let parts = (entries FROM.now from_ensures ⨾⨾ entries TO.now to_ensures ⨾⨾ entries WHEN.now condition_ensures).holds d at h in
+      record { sources = parts.0; operations = parts.1.0; conditions = parts.1.1 };
+})

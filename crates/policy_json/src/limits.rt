@@ -1,2 +1,0 @@
-/// The most entries of a list.
-pub(crate) const MOST: u32 = 2_048;

@@ -1,2 +1,5 @@
+pub mod AcceptedForms
+pub mod AcceptedItems
 pub mod Bundles
-pub mod Counts
+pub mod Counted
+pub mod Fresh

@@ -1,4 +1,5 @@
-ghost use Rattle.std.specs.Prelude.{◌≡◌, ◌++◌, IfOk};
+// Lists that a list of parts makes.
+ghost use Rattle.std.specs.Prelude.{◌≡◌, IfOk};
 ghost use Rattle.manifest_json.specs.Flat as flat;
 
 use mesh_text::{List, Memory};
@@ -23,17 +24,7 @@ pub(crate) fn joined<T: Drop>(alloc: Global, lists: List<List<T>>) -> Result<Lis
 {
     let mut all = List::new(alloc);
     for list in lists.into_vec() {
-        all = append(all, list)?;
-    }
-    Ok(all)
-}
-
-fn append<T: Drop>(front: List<T>, back: List<T>) -> Result<List<T>, Memory>
-    ensures { IfOk result (λ l. l ≡ front ++ back) }
-{
-    let mut all = front;
-    for item in back.into_vec() {
-        all.push(item)?;
+        all.append(list)?;
     }
     Ok(all)
 }

@@ -1,23 +1,27 @@
+// The bundle that items make.
 ghost use Rattle.std.specs.Prelude.{◌≡◌, ◌+◌, ◌<◌, ◌≤◌, ◌^◌, ◌∷◌, [], length, IfOk, OnOk};
-ghost use Rattle.serde_json.specs.View.{items_view};
-ghost use Rattle.mesh_doc.specs.Faults.{Reads};
-ghost use Rattle.mesh_doc.specs.Lists.{each_in};
-ghost use Rattle.mesh_doc.specs.Turns.{each_in_turn};
-ghost use Rattle.manifest_json.specs.BundleItems as bundles;
-ghost use Rattle.manifest_json.specs.ItemForms.{after_item, item_in, next_faults};
+ghost use Rattle.manifest_json.specs.Gather as gather;
 
-use crate::items::{Item, read_next};
-use crate::mesh_config::SYSTEM_NAMESPACE;
-use crate::seen::Seen;
-use mesh_doc::{DocError, Spot};
-use mesh_policy::{Bundle, MeshConfig};
+use crate::items::Item;
+use mesh_policy::{Bundle, MeshConfig, ROOT_NAMESPACE};
 use mesh_text::{List, Memory, Text};
-use serde_json::Value;
 use std::alloc::Global;
 
-/// A bundle without items. Its mesh has the defaults.
-pub(crate) fn no_items(alloc: Global) -> Result<Bundle, Memory>
-    ensures { IfOk result (λ b. b ≡ bundles.no_items) }
+/// The bundle of the items, each kind in their order. Without a MeshConfig its mesh has the defaults.
+#[tactic(auto, using(crate::proofs::Bundles::one_by_one, crate::proofs::Bundles::and_nothing))]
+pub(crate) fn gather(alloc: Global, items: List<Item>) -> Result<Bundle, Memory>
+    requires { length items < 2 ^ 31 }
+    ensures { IfOk result (λ b. b ≡ gather.bundle_of items) }
+{
+    let mut bundle = no_items(alloc)?;
+    for item in items.into_vec() {
+        add(&mut bundle, item)?;
+    }
+    Ok(bundle)
+}
+
+fn no_items(alloc: Global) -> Result<Bundle, Memory>
+    ensures { IfOk result (λ b. b ≡ gather.no_items) }
 {
     Ok(Bundle {
         pods: List::new(alloc),
@@ -26,7 +30,7 @@ pub(crate) fn no_items(alloc: Global) -> Result<Bundle, Memory>
         peers: List::new(alloc),
         requests: List::new(alloc),
         mesh: MeshConfig {
-            root: Text::of(alloc, SYSTEM_NAMESPACE)?,
+            root: Text::of(alloc, ROOT_NAMESPACE)?,
             providers: List::new(alloc),
         },
         mesh_items: 0,
@@ -34,11 +38,11 @@ pub(crate) fn no_items(alloc: Global) -> Result<Bundle, Memory>
     })
 }
 
-/// Puts the item behind those of its kind.
-pub(crate) fn add(bundle: &mut Bundle, item: Item) -> Result<(), Memory>
+// Behind those of its kind.
+fn add(bundle: &mut Bundle, item: Item) -> Result<(), Memory>
     requires mesh_items { bundle.old.mesh_items + 1 < 2 ^ 32 }
     requires others { bundle.old.others + 1 < 2 ^ 32 }
-    ensures added { OnOk result (bundle.new ≡ bundles.bundle_with bundle.old (item ∷ [])) }
+    ensures added { OnOk result (bundle.new ≡ gather.bundle_with bundle.old (item ∷ [])) }
     ensures mesh_items { OnOk result (bundle.new.mesh_items ≤ bundle.old.mesh_items + 1) }
     ensures others { OnOk result (bundle.new.others ≤ bundle.old.others + 1) }
 {
@@ -58,21 +62,4 @@ pub(crate) fn add(bundle: &mut Bundle, item: Item) -> Result<(), Memory>
             Ok(())
         }
     }
-}
-
-/// The bundle of the items of a list at `at`, or the first fault of one of them.
-#[tactic(auto, using(crate::proofs::Bundles::one_by_one, crate::proofs::Bundles::and_nothing))]
-pub(crate) fn gather(alloc: Global, items: &[Value], at: &Spot) -> Result<Bundle, DocError>
-    requires { length items.now < 2 ^ 31 }
-    ensures { Reads result
-        (each_in_turn next_faults after_item [] 0 (items_view items.now) at.now)
-        (bundles.bundle_of (each_in item_in (items_view items.now))) }
-{
-    let mut seen = Seen::new(alloc);
-    let mut bundle = no_items(alloc)?;
-    for (i, v) in items.iter().enumerate() {
-        let item = read_next(alloc, &mut seen, v, &Spot::index(&*at, i as u32))?;
-        add(&mut bundle, item)?;
-    }
-    Ok(bundle)
 }

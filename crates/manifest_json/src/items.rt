@@ -1,7 +1,8 @@
-ghost use Rattle.std.specs.Prelude.{◌≡◌, Some, OnOk, IfOk, IsTrue};
+// One item of a document, and the items behind it.
+ghost use Rattle.std.specs.Prelude.{◌≡◌, Some, IfOk, IsTrue};
 ghost use Rattle.serde_json.specs.View.{view};
 ghost use Rattle.mesh_doc.specs.Faults.{Reads};
-ghost use Rattle.manifest_json.specs.ItemForms as forms;
+ghost use Rattle.manifest_json.specs.Items as items;
 
 use crate::key::{ItemKey, Kind, note_item};
 use crate::kind_table::kind_of;
@@ -10,11 +11,11 @@ use crate::pod::read_pod;
 use crate::policy_items::{read_authorization_item, read_peer_item, read_request_item};
 use crate::seen::Seen;
 use crate::service::read_service;
-use mesh_doc::{AnyText, DocError, Reason, Spot, required};
+use mesh_doc::{AnyText, DocError, InTurn, Reason, Spot, required};
 use mesh_policy::{
     AuthorizationPolicy, MeshConfig, PeerAuthentication, Pod, RequestAuthentication, Service,
 };
-use mesh_text::{Memory, Text};
+use mesh_text::Memory;
 use serde_json::Value;
 use std::alloc::Global;
 
@@ -22,8 +23,12 @@ const API_VERSION: &str = "apiVersion";
 
 pub(crate) const KIND: &str = "kind";
 
+pub(crate) const METADATA: &str = "metadata";
+
+pub(crate) const SPEC: &str = "spec";
+
 /// What one item of a document means.
-#[derive(Debug, Drop, PartialEq, Eq)]
+#[derive(Drop)]
 pub enum Item {
     Pod(Pod),
     Service(Service),
@@ -37,9 +42,9 @@ pub enum Item {
 
 /// The item `v` at `at`, or its first fault: WrongType or MissingField where it is no object with the texts
 /// `apiVersion` and `kind`, WrongKind where a known group has no such kind, and those of its kind.
-#[tactic(auto, unfolding(crate::specs::ItemForms::item_faults, crate::specs::ItemForms::item_in, crate::specs::ItemForms::heading_faults, crate::specs::ItemForms::kind_in))]
+#[tactic(auto, unfolding(crate::specs::Items::item_faults, crate::specs::Items::item_in, crate::specs::Items::heading_faults, crate::specs::Items::kind_in))]
 pub(crate) fn read_item(alloc: Global, v: &Value, at: &Spot) -> Result<Item, DocError>
-    ensures { Reads result (forms.item_faults (view v.now) at.now) (forms.item_in (view v.now)) }
+    ensures { Reads result (items.item_faults (view v.now) at.now) (items.item_in (view v.now)) }
 {
     at.object(alloc, v)?;
     let version = required::<AnyText>(alloc, v, API_VERSION, at)?;
@@ -50,11 +55,11 @@ pub(crate) fn read_item(alloc: Global, v: &Value, at: &Spot) -> Result<Item, Doc
     }
 }
 
-#[tactic(auto, unfolding(crate::specs::ItemForms::kind_faults, crate::specs::ItemForms::kind_value))]
+#[tactic(auto, unfolding(crate::specs::Items::kind_faults, crate::specs::Items::kind_value))]
 fn read_kind(alloc: Global, kind: Kind, v: &Value, at: &Spot) -> Result<Item, DocError>
     ensures { Reads result
-        (forms.kind_faults kind (view v.now) at.now)
-        (forms.kind_value kind (view v.now)) }
+        (items.kind_faults kind (view v.now) at.now)
+        (items.kind_value kind (view v.now)) }
 {
     match kind {
         Kind::Pod => Ok(Item::Pod(read_pod(alloc, v, at)?)),
@@ -67,30 +72,39 @@ fn read_kind(alloc: Global, kind: Kind, v: &Value, at: &Spot) -> Result<Item, Do
     }
 }
 
-/// The item `v` at `at` behind those that `seen` keeps, or its first fault: DuplicateItem for one of an earlier item's
-/// kind, namespace and name, and for a second MeshConfig. It is kept too.
-#[tactic(auto, unfolding(crate::specs::ItemForms::next_faults, crate::specs::ItemForms::after_item))]
-pub(crate) fn read_next(
-    alloc: Global,
-    seen: &mut Seen<ItemKey>,
-    v: &Value,
-    at: &Spot,
-) -> Result<Item, DocError>
-    ensures reads { Reads result
-        (forms.next_faults seen.old (view v.now) at.now)
-        (forms.item_in (view v.now)) }
-    ensures seen { OnOk result (seen.new ≡ forms.after_item seen.old (view v.now)) }
-{
-    let item = read_item(alloc, v, at)?;
-    if !note_next(seen, key_of(alloc, &item)?)? {
-        return Err(at.refuse(alloc, Reason::DuplicateItem));
+/// An item behind those that stand before it: DuplicateItem for one of an earlier item's kind, namespace and name, and
+/// for a second MeshConfig.
+pub(crate) struct NextItem;
+
+impl InTurn for NextItem {
+    type Out = Item;
+
+    type Seen = Seen<ItemKey>;
+
+    ghost faults = { items.next_faults };
+
+    ghost value = { items.item_in };
+
+    ghost after = { items.after_item };
+
+    #[tactic(auto, unfolding(crate::specs::Items::next_faults, crate::specs::Items::after_item))]
+    fn read(
+        alloc: Global,
+        seen: &mut Seen<ItemKey>,
+        v: &Value,
+        at: &Spot,
+    ) -> Result<Item, DocError> {
+        let item = read_item(alloc, v, at)?;
+        if !note_next(seen, key_of(alloc, &item)?)? {
+            return Err(at.refuse(alloc, Reason::DuplicateItem));
+        }
+        Ok(item)
     }
-    Ok(item)
 }
 
 fn note_next(seen: &mut Seen<ItemKey>, key: Option<ItemKey>) -> Result<bool, Memory>
-    ensures new { IfOk result (λ is_new. is_new ≡ forms.is_new seen.old key) }
-    ensures kept { IfOk result (λ is_new. IsTrue is_new → seen.new ≡ forms.seen_with seen.old key) }
+    ensures new { IfOk result (λ is_new. is_new ≡ items.is_new seen.old key) }
+    ensures kept { IfOk result (λ is_new. IsTrue is_new → seen.new ≡ items.seen_with seen.old key) }
 {
     match key {
         Some(key) => note_item(seen, key),
@@ -98,36 +112,33 @@ fn note_next(seen: &mut Seen<ItemKey>, key: Option<ItemKey>) -> Result<bool, Mem
     }
 }
 
-#[tactic(auto, unfolding(crate::specs::ItemForms::key_of))]
+#[tactic(auto, unfolding(crate::specs::Items::key_of))]
 fn key_of(alloc: Global, item: &Item) -> Result<Option<ItemKey>, Memory>
-    ensures { IfOk result (λ key. key ≡ forms.key_of item.now) }
+    ensures { IfOk result (λ key. key ≡ items.key_of item.now) }
 {
     match item {
-        Item::Pod(pod) => key(alloc, Kind::Pod, &pod.namespace, &pod.name),
-        Item::Service(service) => key(alloc, Kind::Service, &service.namespace, &service.name),
-        Item::Authorization(policy) => key(
+        Item::Pod(pod) => some_key(alloc, Kind::Pod, &pod.namespace, &pod.name),
+        Item::Service(service) => some_key(alloc, Kind::Service, &service.namespace, &service.name),
+        Item::Authorization(policy) => some_key(
             alloc,
             Kind::Authorization,
             &policy.namespace,
             &policy.name,
         ),
-        Item::Peer(policy) => key(alloc, Kind::Peer, &policy.namespace, &policy.name),
-        Item::Request(policy) => key(alloc, Kind::Request, &policy.namespace, &policy.name),
-        Item::Mesh(_) => Ok(Some(ItemKey {
-            kind: Kind::Mesh,
-            namespace: Text::of(alloc, "")?,
-            name: Text::of(alloc, "")?,
-        })),
+        Item::Peer(policy) => some_key(alloc, Kind::Peer, &policy.namespace, &policy.name),
+        Item::Request(policy) => some_key(alloc, Kind::Request, &policy.namespace, &policy.name),
+        Item::Mesh(_) => some_key(alloc, Kind::Mesh, "", ""),
         Item::Other => Ok(None),
     }
 }
 
-fn key(alloc: Global, kind: Kind, namespace: &Text, name: &Text) -> Result<Option<ItemKey>, Memory>
+fn some_key(
+    alloc: Global,
+    kind: Kind,
+    namespace: &str,
+    name: &str,
+) -> Result<Option<ItemKey>, Memory>
     ensures { IfOk result (λ key. key ≡ Some (record { kind = kind; namespace = namespace.now; name = name.now })) }
 {
-    Ok(Some(ItemKey {
-        kind,
-        namespace: namespace.copy(alloc)?,
-        name: name.copy(alloc)?,
-    }))
+    Ok(Some(ItemKey::of(alloc, kind, namespace, name)?))
 }

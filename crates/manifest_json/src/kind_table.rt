@@ -1,3 +1,4 @@
+// What an item is read as, by its `apiVersion` and `kind`.
 ghost use Rattle.std.specs.Prelude.{◌≡◌};
 ghost use Rattle.manifest_json.specs.KindTable as table;
 
@@ -33,7 +34,7 @@ const MESH_CONFIG: &str = "MeshConfig";
 pub(crate) fn kind_of(version: &str, kind: &str) -> Option<Kind>
     ensures { result ≡ table.kind_of version.now kind.now }
 {
-    if version == ISTIO_V1 || version == ISTIO_V1BETA1 {
+    if is_policy_version(version) {
         return policy_kind(kind);
     }
     if version == CORE_V1 {
@@ -46,6 +47,12 @@ pub(crate) fn kind_of(version: &str, kind: &str) -> Option<Kind>
         return None;
     }
     Some(Kind::Other)
+}
+
+fn is_policy_version(version: &str) -> bool
+    ensures { result ≡ table.is_policy_version version.now }
+{
+    version == ISTIO_V1 || version == ISTIO_V1BETA1
 }
 
 fn policy_kind(kind: &str) -> Option<Kind>

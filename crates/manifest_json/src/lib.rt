@@ -2,8 +2,6 @@
 //! reading order (Kubernetes API reference; Istio reference; docs/FORMATS.md has the forms).
 #![tactic(auto)]
 
-#[cfg(test)]
-mod bundle_tests;
 mod document;
 mod flat;
 mod gather;
@@ -11,19 +9,13 @@ mod items;
 mod key;
 mod kind_table;
 mod mesh_config;
-#[cfg(test)]
-mod mesh_tests;
 mod metadata;
-#[cfg(test)]
-mod metadata_tests;
 mod pod;
 mod policy_items;
-#[cfg(test)]
-mod port_tests;
 mod ports;
 mod seen;
 mod service;
-#[cfg(test)]
-mod told;
+mod words;
 
 pub use document::read_bundle;
+pub use words::manifest_words;

@@ -1,25 +1,22 @@
+// The `metadata` of an item, kind by kind.
 ghost use Rattle.std.specs.Prelude.{◌≡◌};
 ghost use Rattle.serde_json.specs.Data.{Data};
 ghost use Rattle.serde_json.specs.View.{view};
 ghost use Rattle.mesh_doc.specs.Faults.{Reads};
-ghost use Rattle.mesh_doc.specs.Kinds.{text_in};
-ghost use Rattle.manifest_json.specs.Metadata.{annotations_faults, authorization_metadata_faults, dry_run_faults, is_timestamp, name_faults, names_faults, names_in, namespace_faults, peer_metadata_faults, peer_metadata_in, plain_metadata_faults, pod_metadata_faults, pod_metadata_in, time_faults};
+ghost use Rattle.mesh_doc.specs.declared.reason.Reason.TheVariants as reasons;
+ghost use Rattle.mesh_text.specs.Dns.{is_label, is_subdomain};
+ghost use Rattle.manifest_json.specs.Metadata as metadata;
 
-use mesh_doc::{DocError, Form, Reason, Spot, optional, required};
-use mesh_policy::Label;
+use mesh_doc::{DocError, Form, Reason, Spot, Tested, TextTest, optional, or_empty, required};
+use mesh_policy::{DEFAULT_NAMESPACE, Label};
 use mesh_text::{List, Text, is_dns_label, is_dns_subdomain, is_time};
 use policy_json::Labels;
 use serde_json::Value;
 use std::alloc::Global;
 
-/// The field of an item that the forms of this module read.
-pub(crate) const METADATA: &str = "metadata";
-
 pub(crate) const NAME: &str = "name";
 
 const NAMESPACE: &str = "namespace";
-
-const DEFAULT_NAMESPACE: &str = "default";
 
 const LABELS: &str = "labels";
 
@@ -32,7 +29,7 @@ const DRY_RUN: &str = "istio.io/dry-run";
 const TRUE_WORD: &str = "true";
 
 /// The name of an item and its namespace.
-#[derive(Debug, Drop, PartialEq, Eq)]
+#[derive(Drop)]
 pub struct Names {
     /// A DNS subdomain (RFC 1123, section 2.1), of at most 253 bytes.
     pub name: Text,
@@ -41,7 +38,7 @@ pub struct Names {
 }
 
 /// What the metadata of a Pod say.
-#[derive(Debug, Drop, PartialEq, Eq)]
+#[derive(Drop)]
 pub struct PodMetadata {
     pub names: Names,
     /// In byte order of their keys.
@@ -49,62 +46,58 @@ pub struct PodMetadata {
 }
 
 /// What the metadata of a PeerAuthentication say.
-#[derive(Debug, Drop, PartialEq, Eq)]
+#[derive(Drop)]
 pub struct PeerMetadata {
     pub names: Names,
     /// When it was made, in the form of RFC 3339 in UTC and whole seconds.
     pub age: Option<Text>,
 }
 
-pub(crate) struct Name;
+/// A DNS subdomain, else BadName.
+pub(crate) struct IsName;
 
-impl Form for Name {
-    type Out = Text;
+impl TextTest for IsName {
+    ghost passes = { is_subdomain };
 
-    ghost faults = { name_faults };
+    ghost reason = { reasons.BadName };
 
-    ghost value = { text_in };
+    fn passes(text: &str) -> bool {
+        is_dns_subdomain(text)
+    }
 
-    #[tactic(auto, unfolding(crate::specs::Metadata::name_faults, mesh_doc::specs::Kinds::text_faults, mesh_doc::specs::Kinds::text_in))]
-    fn read(alloc: Global, v: &Value, at: &Spot) -> Result<Text, DocError> {
-        let Value::String(text) = v else {
-            return Err(at.refuse(alloc, Reason::WrongType));
-        };
-        if !is_dns_subdomain(text.as_str()) {
-            return Err(at.refuse(alloc, Reason::BadName));
-        }
-        Ok(Text::of(alloc, text.as_str())?)
+    fn reason() -> Reason {
+        Reason::BadName
     }
 }
 
-pub(crate) struct Namespace;
+pub(crate) type Name = Tested<IsName>;
 
-impl Form for Namespace {
-    type Out = Text;
+/// A DNS label, else BadName.
+pub(crate) struct IsNamespace;
 
-    ghost faults = { namespace_faults };
+impl TextTest for IsNamespace {
+    ghost passes = { is_label };
 
-    ghost value = { text_in };
+    ghost reason = { reasons.BadName };
 
-    #[tactic(auto, unfolding(crate::specs::Metadata::namespace_faults, mesh_doc::specs::Kinds::text_faults, mesh_doc::specs::Kinds::text_in))]
-    fn read(alloc: Global, v: &Value, at: &Spot) -> Result<Text, DocError> {
-        let Value::String(text) = v else {
-            return Err(at.refuse(alloc, Reason::WrongType));
-        };
-        if !is_dns_label(text.as_str()) {
-            return Err(at.refuse(alloc, Reason::BadName));
-        }
-        Ok(Text::of(alloc, text.as_str())?)
+    fn passes(text: &str) -> bool {
+        is_dns_label(text)
+    }
+
+    fn reason() -> Reason {
+        Reason::BadName
     }
 }
 
-/// The names in the object `metadata` at `at`, or the first of their faults: MissingField, WrongType, BadName.
+pub(crate) type Namespace = Tested<IsNamespace>;
+
+// The names in the object `v` at `at`, or the first of their faults: MissingField, WrongType, BadName.
 #[tactic(auto, unfolding(crate::specs::Metadata::names_faults, crate::specs::Metadata::names_in))]
-fn read_names(alloc: Global, metadata: &Value, at: &Spot) -> Result<Names, DocError>
-    ensures { Reads result (names_faults (view metadata.now) at.now) (names_in (view metadata.now)) }
+fn read_names(alloc: Global, v: &Value, at: &Spot) -> Result<Names, DocError>
+    ensures { Reads result (metadata.names_faults (view v.now) at.now) (metadata.names_in (view v.now)) }
 {
-    let name = required::<Name>(alloc, metadata, NAME, at)?;
-    let namespace = optional::<Namespace>(alloc, metadata, NAMESPACE, at)?;
+    let name = required::<Name>(alloc, v, NAME, at)?;
+    let namespace = optional::<Namespace>(alloc, v, NAMESPACE, at)?;
     let namespace = match namespace {
         Some(namespace) => namespace,
         None => Text::of(alloc, DEFAULT_NAMESPACE)?,
@@ -118,9 +111,9 @@ pub(crate) struct PlainMeta;
 impl Form for PlainMeta {
     type Out = Names;
 
-    ghost faults = { plain_metadata_faults };
+    ghost faults = { metadata.plain_metadata_faults };
 
-    ghost value = { names_in };
+    ghost value = { metadata.names_in };
 
     #[tactic(auto, unfolding(crate::specs::Metadata::plain_metadata_faults))]
     fn read(alloc: Global, v: &Value, at: &Spot) -> Result<Names, DocError> {
@@ -129,53 +122,40 @@ impl Form for PlainMeta {
     }
 }
 
-/// The metadata of a Pod. Faults: WrongType, and those of the names.
+/// The metadata of a Pod. Faults: WrongType, those of the names, and those of its labels.
 pub(crate) struct PodMeta;
 
 impl Form for PodMeta {
     type Out = PodMetadata;
 
-    ghost faults = { pod_metadata_faults };
+    ghost faults = { metadata.pod_metadata_faults };
 
-    ghost value = { pod_metadata_in };
+    ghost value = { metadata.pod_metadata_in };
 
     #[tactic(auto, unfolding(crate::specs::Metadata::pod_metadata_faults, crate::specs::Metadata::pod_metadata_in))]
     fn read(alloc: Global, v: &Value, at: &Spot) -> Result<PodMetadata, DocError> {
         at.object(alloc, v)?;
         let names = read_names(alloc, v, at)?;
-        let labels = optional::<Labels>(alloc, v, LABELS, at)?;
-        Ok(PodMetadata {
-            names,
-            labels: labels.unwrap_or(List::new(alloc)),
-        })
+        let labels = or_empty::<Labels>(alloc, v, LABELS, at)?;
+        Ok(PodMetadata { names, labels })
     }
 }
 
-#[tactic(auto, unfolding(crate::specs::Metadata::is_timestamp))]
-fn is_timestamp(text: &str) -> bool
-    ensures { result ≡ is_timestamp text.now }
-{
-    is_time(text)
-}
+// A time in UTC and whole seconds (RFC 3339, section 5.6), else BadTime.
+struct IsTimestamp;
 
-struct Time;
+impl TextTest for IsTimestamp {
+    ghost passes = { metadata.is_timestamp };
 
-impl Form for Time {
-    type Out = Text;
+    ghost reason = { reasons.BadTime };
 
-    ghost faults = { time_faults };
+    #[tactic(auto, unfolding(crate::specs::Metadata::is_timestamp))]
+    fn passes(text: &str) -> bool {
+        is_time(text)
+    }
 
-    ghost value = { text_in };
-
-    #[tactic(auto, unfolding(crate::specs::Metadata::time_faults, mesh_doc::specs::Kinds::text_faults, mesh_doc::specs::Kinds::text_in))]
-    fn read(alloc: Global, v: &Value, at: &Spot) -> Result<Text, DocError> {
-        let Value::String(text) = v else {
-            return Err(at.refuse(alloc, Reason::WrongType));
-        };
-        if !is_timestamp(text.as_str()) {
-            return Err(at.refuse(alloc, Reason::BadTime));
-        }
-        Ok(Text::of(alloc, text.as_str())?)
+    fn reason() -> Reason {
+        Reason::BadTime
     }
 }
 
@@ -185,15 +165,15 @@ pub(crate) struct PeerMeta;
 impl Form for PeerMeta {
     type Out = PeerMetadata;
 
-    ghost faults = { peer_metadata_faults };
+    ghost faults = { metadata.peer_metadata_faults };
 
-    ghost value = { peer_metadata_in };
+    ghost value = { metadata.peer_metadata_in };
 
     #[tactic(auto, unfolding(crate::specs::Metadata::peer_metadata_faults, crate::specs::Metadata::peer_metadata_in))]
     fn read(alloc: Global, v: &Value, at: &Spot) -> Result<PeerMetadata, DocError> {
         at.object(alloc, v)?;
         let names = read_names(alloc, v, at)?;
-        let age = optional::<Time>(alloc, v, CREATION_TIMESTAMP, at)?;
+        let age = optional::<Tested<IsTimestamp>>(alloc, v, CREATION_TIMESTAMP, at)?;
         Ok(PeerMetadata { names, age })
     }
 }
@@ -204,19 +184,26 @@ struct NoDryRun;
 impl Form for NoDryRun {
     type Out = ();
 
-    ghost faults = { dry_run_faults };
+    ghost faults = { metadata.dry_run_faults };
 
     ghost value = { λ (d : Data). tt };
 
-    #[tactic(auto, unfolding(crate::specs::Metadata::dry_run_faults, mesh_doc::specs::Kinds::text_in))]
+    #[tactic(auto, unfolding(crate::specs::Metadata::dry_run_faults))]
     fn read(alloc: Global, v: &Value, at: &Spot) -> Result<(), DocError> {
-        match v {
-            Value::String(word) if word.as_str() == TRUE_WORD => Err(at.refuse(
-                alloc,
-                Reason::DryRun,
-            )),
-            _ => Ok(()),
+        if is_true_word(v) {
+            return Err(at.refuse(alloc, Reason::DryRun));
         }
+        Ok(())
+    }
+}
+
+#[tactic(auto, unfolding(crate::specs::Metadata::is_true_word, mesh_doc::specs::Kinds::text_in))]
+fn is_true_word(v: &Value) -> bool
+    ensures { result ≡ metadata.is_true_word (view v.now) }
+{
+    match v {
+        Value::String(word) => word.as_str() == TRUE_WORD,
+        _ => false,
     }
 }
 
@@ -225,7 +212,7 @@ struct Annotations;
 impl Form for Annotations {
     type Out = ();
 
-    ghost faults = { annotations_faults };
+    ghost faults = { metadata.annotations_faults };
 
     ghost value = { λ (d : Data). tt };
 
@@ -244,15 +231,15 @@ pub(crate) struct AuthorizationMeta;
 impl Form for AuthorizationMeta {
     type Out = Names;
 
-    ghost faults = { authorization_metadata_faults };
+    ghost faults = { metadata.authorization_metadata_faults };
 
-    ghost value = { names_in };
+    ghost value = { metadata.names_in };
 
     #[tactic(auto, unfolding(crate::specs::Metadata::authorization_metadata_faults))]
     fn read(alloc: Global, v: &Value, at: &Spot) -> Result<Names, DocError> {
         at.object(alloc, v)?;
         let names = read_names(alloc, v, at)?;
-        optional::<Annotations>(alloc, v, ANNOTATIONS, at)?;
+        or_empty::<Annotations>(alloc, v, ANNOTATIONS, at)?;
         Ok(names)
     }
 }

@@ -1,3 +1,4 @@
+// The names that stood before, each once.
 ghost use Rattle.std.specs.Prelude.{◌≡◌, [], not, IfOk, OnOk};
 ghost use Rattle.std.specs.List.{list_any};
 ghost use Rattle.indexmap.specs.IndexSet.{insert_key};

@@ -1,9 +1,9 @@
 -- A Service (Kubernetes API reference, Service v1): its selector and its TCP ports.
-use Rattle.std.specs.Prelude.{[], Option, Some, None, is_some, unwrap_or, if◌then◌else◌}
+use Rattle.std.specs.Prelude.{Option, Some, None, is_some, unwrap_or, if◌then◌else◌}
 use Rattle.serde_json.specs.Data.{Data}
 use Rattle.serde_json.specs.Find.{as_str}
 use Rattle.mesh_doc.specs.Faults.{Check, none, ◌⨾◌}
-use Rattle.mesh_doc.specs.Fields.{open_object, required, required_in, optional, optional_in}
+use Rattle.mesh_doc.specs.Fields.{open_object, optional, optional_in, or_empty, or_empty_in, required, required_in}
 use Rattle.mesh_doc.specs.Kinds.{number_in, text_faults, text_in}
 use Rattle.mesh_doc.specs.Lists.{listed, listed_in}
 use Rattle.mesh_policy.specs.declared.service.Service.{Service}
@@ -13,12 +13,12 @@ use Rattle.mesh_policy.specs.declared.service.Target.TheVariants as target
 use Rattle.policy_json.specs.Labels.{labels_faults, labels_in}
 use Rattle.manifest_json.specs.Flat.{kept}
 use Rattle.manifest_json.specs.Metadata.{names_in, plain_metadata_faults}
-use Rattle.manifest_json.specs.PortForms.{has_other_protocol, port_faults, unless_passed}
-use Rattle.manifest_json.specs.declared.metadata.TheConstants.{METADATA, NAME}
-use Rattle.manifest_json.specs.declared.pod.TheConstants.{SPEC, PORTS}
-use Rattle.manifest_json.specs.declared.ports.TheConstants.{MOST_ENTRIES}
+use Rattle.manifest_json.specs.Ports.{has_other_protocol, port_faults, unless_passed}
+use Rattle.manifest_json.specs.declared.items.TheConstants.{METADATA, SPEC}
+use Rattle.manifest_json.specs.declared.metadata.TheConstants.{NAME}
+use Rattle.manifest_json.specs.declared.ports.TheConstants.{PORT, PORTS}
 use Rattle.manifest_json.specs.declared.service.ServiceSpec.{ServiceSpec}
-use Rattle.manifest_json.specs.declared.service.TheConstants.{SELECTOR, PORT, TARGET_PORT, APP_PROTOCOL}
+use Rattle.manifest_json.specs.declared.service.TheConstants.{SELECTOR, TARGET_PORT, APP_PROTOCOL}
 
 -- ---- a port
 
@@ -29,6 +29,7 @@ target_faults d at = if is_some (as_str d) then none else port_faults d at
 unfoldable pub target_in : Data → Target
 target_in d = if is_some (as_str d) then target.Named (text_in d) else target.Number (number_in d)
 
+-- a TCP port
 unfoldable pub service_port_faults : Check
 service_port_faults = open_object (unless_passed has_other_protocol
     (optional NAME.now text_faults
@@ -46,31 +47,28 @@ service_port_in d = if has_other_protocol d then None else Some (record {
 
 -- ---- the `spec`
 
+-- labels of Pods, and at most 2,048 ports
 unfoldable pub service_spec_faults : Check
 service_spec_faults = open_object
-    (optional SELECTOR.now labels_faults
-    ⨾ listed PORTS.now MOST_ENTRIES service_port_faults)
+    (or_empty SELECTOR.now labels_faults
+    ⨾ listed PORTS.now 2048 service_port_faults)
 
 unfoldable pub service_spec_in : Data → ServiceSpec
 service_spec_in d = record {
-  selector = unwrap_or (optional_in SELECTOR.now labels_in d) [];
+  selector = or_empty_in SELECTOR.now labels_in d;
   ports = kept (listed_in PORTS.now service_port_in d);
 }
 
 -- ---- the whole
 
+-- its metadata and its `spec`
 unfoldable pub service_faults : Check
 service_faults = open_object
     (required METADATA.now plain_metadata_faults
-    ⨾ optional SPEC.now service_spec_faults)
-
-abbrev pub empty_spec : ServiceSpec
-empty_spec = record { selector = []; ports = [] }
+    ⨾ or_empty SPEC.now service_spec_faults)
 
 unfoldable pub service_in : Data → Service
-service_in d = record {
-  name = (required_in METADATA.now names_in d).name;
-  namespace = (required_in METADATA.now names_in d).namespace;
-  selector = (unwrap_or (optional_in SPEC.now service_spec_in d) empty_spec).selector;
-  ports = (unwrap_or (optional_in SPEC.now service_spec_in d) empty_spec).ports;
-}
+service_in d =
+    let names = required_in METADATA.now names_in d in
+    let spec = or_empty_in SPEC.now service_spec_in d in
+    record { name = names.name; namespace = names.namespace; selector = spec.selector; ports = spec.ports }

@@ -1,19 +1,18 @@
 -- A port by its number, and the entries that have ports (Kubernetes API reference, ContainerPort and ServicePort).
-use Rattle.std.specs.Prelude.{ℕ, Bool, false, ◌&&◌, not, List, Option, Some, None, nat_le, option_and_then, if◌then◌else◌}
+use Rattle.std.specs.Prelude.{ℕ, Bool, false, not, List, Option, Some, None, option_and_then, if◌then◌else◌}
 use Rattle.std.specs.Str.{bytes_eq}
 use Rattle.serde_json.specs.Data.{Data}
 use Rattle.serde_json.specs.Find.{as_str}
 use Rattle.mesh_doc.specs.Faults.{Check, none, ◌▸◌, demands}
 use Rattle.mesh_doc.specs.Fields.{field_in}
 use Rattle.mesh_doc.specs.Kinds.{number_faults, number_in}
-use Rattle.mesh_doc.specs.declared.reason.Reason.TheVariants.{BadPort}
+use Rattle.mesh_doc.specs.declared.reason.Reason.TheVariants as reason
+use Rattle.mesh_policy.specs.Values.{is_port}
 use Rattle.manifest_json.specs.declared.ports.TheConstants.{PROTOCOL, TCP}
 
-abbrev pub is_port : ℕ → Bool
-is_port n = nat_le 1 n && nat_le n 65535
-
+-- a number from 1 to 65,535
 unfoldable pub port_faults : Check
-port_faults = number_faults ▸ demands (λ d. is_port (number_in d)) BadPort
+port_faults = number_faults ▸ demands (λ d. is_port (number_in d)) reason.BadPort
 
 -- a text other than `TCP`
 abbrev pub is_other : Option (List ℕ) → Bool

@@ -10,5 +10,6 @@ use Rattle.manifest_json.specs.declared.key.ItemKey.{ItemKey}
 abbrev pub same_kind : Kind → Kind → Bool
 same_kind = sameb the_type
 
+-- `==` on keys
 abbrev pub same_key : ItemKey → ItemKey → Bool
 same_key a b = same_kind a.kind b.kind && (bytes_eq a.namespace b.namespace && bytes_eq a.name b.name)

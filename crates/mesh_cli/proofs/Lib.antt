@@ -1,12 +1,13 @@
-mod Booleans
 mod Builds
 mod Enforced
 mod Fronts
 mod Inputs
 mod NamesRise
-mod Served
+mod Options
 mod Policies
+mod PortPolicies
 mod Readings
+mod Served
 mod Shallow
 mod Spelled
 mod Verdict

@@ -1,21 +1,21 @@
 -- The policies of at most one AuthorizationPolicy with few rules stand in byte order of their names.
-use Rattle.std.proofs.Common.{◌≡◌, ℕ, ◌+◌, ◌<◌, ◌≤◌, Bool, true, false, cond, List, [], ◌∷◌, ◌++◌, length, codes, filter, refl, sym, ◌∙◌, ap, arith, append_assoc}
+use Rattle.std.proofs.Common.{◌≡◌, ℕ, ◌+◌, ◌<◌, ◌≤◌, Bool, true, false, cond, List, [], ◌∷◌, ◌++◌, length, codes, filter, nat_le, refl, sym, ◌∙◌, ap, arith, append_assoc}
 use Rattle.std.specs.List.{list_all}
 use Rattle.std.specs.Fmt.{decimal}
 use Rattle.std.specs.Ordering.{nat_cmp, match_ordering, ordering_then}
 use Rattle.std.specs.declared.cmp.Ordering.TheVariants.{Less, Equal}
 use Rattle.std.specs.Cmp.{nat_cmp_is}
 use Rattle.std.specs.Cmp.Lexicographic.{slice_cmp}
-use Rattle.std.proofs.lemmas.Bool.{leb-true}
+use Rattle.std.proofs.lemmas.Bool.{leb-true, and_parts, and_from}
 use Rattle.std.proofs.lemmas.Fmt.{decimal_digit}
 use Rattle.std.proofs.lemmas.List.{append-nil}
 use Rattle.mesh_policy.specs.declared.pod.Pod.{Pod}
 use Rattle.mesh_policy.specs.declared.policy.AuthorizationPolicy.{AuthorizationPolicy}
 use Rattle.mesh_policy.specs.declared.policy.Rule.{Rule}
 use Rattle.mesh_policy.specs.Applies.{applies}
-use Rattle.envoy_types.specs.Rules.{is_below, names_rise}
-use Rattle.mesh_cli.specs.Built.{are_buildable, has_few_rules, rule_name, rule_policies, policies_of}
-use Rattle.mesh_cli.proofs.Booleans.{both, left_of, right_of}
+use Rattle.envoy_types.specs.Rbac.{is_below, names_rise}
+use Rattle.mesh_cli.specs.BuildRules.{rule_name, rule_policies, policies_of}
+use Rattle.mesh_cli.specs.Buildable.{allows_for_all, are_buildable, are_few, has_few_rules, has_one_operation}
 
 same : (x : ℕ) → nat_cmp x x ≡ Equal
 same x = sym (nat_cmp_is x x Equal refl)
@@ -26,7 +26,8 @@ less i j h = sym (nat_cmp_is i j Less h)
 -- a common front decides nothing
 slice_cmp-front : (front a b : List ℕ) → slice_cmp nat_cmp (front ++ a) (front ++ b) ≡ slice_cmp nat_cmp a b
 slice_cmp-front [] a b = refl
-slice_cmp-front (x ∷ front) a b = ap (λ o. ordering_then o (slice_cmp nat_cmp (front ++ a) (front ++ b))) (same x) ∙ slice_cmp-front front a b
+slice_cmp-front (x ∷ front) a b =
+    ap (λ o. ordering_then o (slice_cmp nat_cmp (front ++ a) (front ++ b))) (same x) ∙ slice_cmp-front front a b
 
 behind : (front : List ℕ) (i j : ℕ) (end : List ℕ) → i < j → is_below (front ++ (i ∷ end)) (front ++ (j ∷ end)) ≡ true
 behind front i j end h = ap (λ o. match_ordering o true false false)
@@ -56,23 +57,28 @@ below_all policy i k (rule ∷ rules) h few =
     let digit : k < 10 = omega arith in
     let later : i < k + 1 = omega arith in
     let fewer : k + 1 + length rules ≤ 10 = omega arith in
-    both _ _ (name-below policy i k h digit) (below_all policy i (k + 1) rules later fewer)
+    and_from _ _ (name-below policy i k h digit) (below_all policy i (k + 1) rules later fewer)
 
-rules-rise : (policy : AuthorizationPolicy) (k : ℕ) (rules : List Rule) → k + length rules ≤ 10 → names_rise (rule_policies policy k rules) ≡ true
+rules-rise : (policy : AuthorizationPolicy) (k : ℕ) (rules : List Rule) → k + length rules ≤ 10
+    → names_rise (rule_policies policy k rules) ≡ true
 rules-rise policy k [] few = refl
 rules-rise policy k (rule ∷ rules) few =
     let next : k < k + 1 = omega arith in
     let fewer : k + 1 + length rules ≤ 10 = omega arith in
-    both _ _ (below_all policy k (k + 1) rules next fewer) (rules-rise policy (k + 1) rules fewer)
+    and_from _ _ (below_all policy k (k + 1) rules next fewer) (rules-rise policy (k + 1) rules fewer)
 
-one-rises : (policy : AuthorizationPolicy) (chosen : Bool) → has_few_rules policy ≡ true → names_rise (policies_of (cond chosen (policy ∷ []) [])) ≡ true
+one-rises : (policy : AuthorizationPolicy) (chosen : Bool) → has_few_rules policy ≡ true
+    → names_rise (policies_of (cond chosen (policy ∷ []) [])) ≡ true
 one-rises policy false h = refl
 one-rises policy true h =
-    let few : length policy.rules ≤ 8 = leb-true _ _ (left_of _ _ (right_of _ _ h)) in
+    let rules = and_parts (allows_for_all policy) (are_few policy.rules) h in
+    let counted = and_parts (nat_le (length policy.rules) 8) (list_all has_one_operation policy.rules) rules.1 in
+    let few : length policy.rules ≤ 8 = leb-true (length policy.rules) 8 counted.0 in
     let fits : 0 + length policy.rules ≤ 10 = omega arith in
     ap names_rise (append-nil (rule_policies policy 0 policy.rules)) ∙ rules-rise policy 0 policy.rules fits
 
-pub policies-rise : (pod : Pod) (policies : List AuthorizationPolicy) → are_buildable policies ≡ true → names_rise (policies_of (filter (applies pod) policies)) ≡ true
+pub policies-rise : (pod : Pod) (policies : List AuthorizationPolicy) → are_buildable policies ≡ true
+    → names_rise (policies_of (filter (applies pod) policies)) ≡ true
 policies-rise pod [] h = refl
 policies-rise pod (policy ∷ []) h = one-rises policy (applies pod policy) h
 policies-rise pod (policy ∷ (other ∷ policies)) h = cc

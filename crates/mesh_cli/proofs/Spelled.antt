@@ -1,5 +1,6 @@
 -- The value that is written of the listener that is built spells that listener.
 use Rattle.std.proofs.Common.{◌≡◌, ℕ, ◌+◌, Bool, true, false, cond, List, [], ◌∷◌, ◌++◌, map, filter, Some, refl, sym, ◌∙◌, ap}
+use Rattle.std.proofs.lemmas.Bool.{and_parts}
 use Rattle.std.specs.List.{list_any, list_all}
 use Rattle.std.specs.Ordering.{nat_cmp, match_ordering}
 use Rattle.std.specs.declared.cmp.Ordering.{Ordering}
@@ -19,12 +20,13 @@ use Rattle.envoy_types.specs.declared.rbac.PermissionLeaf.TheVariants.{Destinati
 use Rattle.envoy_types.specs.declared.rbac.Principal.TheVariants.{Any}
 use Rattle.envoy_types.specs.declared.rbac.RbacAction.TheVariants.{Allow}
 use Rattle.envoy_types.specs.declared.rbac.RbacPolicy.{RbacPolicy}
-use Rattle.envoy_types.specs.Rules.{names_rise, is_below}
+use Rattle.envoy_types.specs.Rbac.{names_rise, is_below}
 use Rattle.envoy_types.specs.Spells.{policy_in, named_policies, policies_in, listener_in}
 use Rattle.envoy_types.specs.Written as form
 use Rattle.envoy_types.specs.Written.{written}
-use Rattle.mesh_cli.specs.Built.{is_buildable, are_buildable, has_few_rules, has_one_operation, has_one_port, is_of_one_port, is_sole, permissions_of, rule_name, rule_policies, policies_of, allow_filter, listener_with, built}
-use Rattle.mesh_cli.proofs.Booleans.{left_of, right_of}
+use Rattle.mesh_cli.specs.Build.{listener_with, built}
+use Rattle.mesh_cli.specs.BuildRules.{permissions_of, rule_name, rule_policies, policies_of, allow_filter}
+use Rattle.mesh_cli.specs.Buildable.{is_buildable, are_buildable, has_few_rules, has_one_operation, has_one_port, is_of_one_port, is_sole}
 use Rattle.mesh_cli.proofs.Builds.{policies-of}
 use Rattle.mesh_cli.proofs.NamesRise.{policies-rise}
 
@@ -39,15 +41,16 @@ less-by Less a b c h = refl
 less-by Equal a b c h = cc
 less-by Greater a b c h = cc
 
-put-first : (name : List ℕ) (value : Data) (policies : List RbacPolicy) → list_all (λ later. is_below name later.name) policies ≡ true → put name value (direct policies) ≡ member name value (direct policies)
+put-first : (name : List ℕ) (value : Data) (policies : List RbacPolicy)
+    → list_all (λ later. is_below name later.name) policies ≡ true → put name value (direct policies) ≡ member name value (direct policies)
 put-first name value [] h = refl
-put-first name value (policy ∷ policies) h = less-by (slice_cmp nat_cmp name policy.name) _ _ _ (left_of _ _ h)
+put-first name value (policy ∷ policies) h = less-by (slice_cmp nat_cmp name policy.name) _ _ _ (and_parts _ _ h).0
 
 pub in-order : (policies : List RbacPolicy) → names_rise policies ≡ true → form.policies policies ≡ direct policies
 in-order [] h = refl
 in-order (policy ∷ policies) h =
-    ap (put policy.name (form.policy policy)) (in-order policies (right_of _ _ h))
-    ∙ put-first policy.name (form.policy policy) policies (left_of _ _ h)
+    ap (put policy.name (form.policy policy)) (in-order policies (and_parts _ _ h).1)
+    ∙ put-first policy.name (form.policy policy) policies (and_parts _ _ h).0
 
 -- ---- each is read back
 
@@ -62,15 +65,15 @@ rule-back : (name : List ℕ) (operations : List OperationSpec) → is_sole has_
     → policy_in name (form.policy (record { name = name; permissions = permissions_of operations; principals = Any ∷ [] }))
     ≡ Some (record { name = name; permissions = permissions_of operations; principals = Any ∷ [] })
 rule-back name [] h = cc
-rule-back name (operation ∷ []) h = port-back name operation.ports (right_of _ _ h)
+rule-back name (operation ∷ []) h = port-back name operation.ports (and_parts _ _ h).1
 rule-back name (operation ∷ (other ∷ operations)) h = cc
 
 rules-back : (policy : AuthorizationPolicy) (k : ℕ) (rules : List Rule) → list_all has_one_operation rules ≡ true
     → named_policies (direct (rule_policies policy k rules)) ≡ Some (rule_policies policy k rules)
 rules-back policy k [] h = refl
 rules-back policy k (rule ∷ rules) h =
-    let sole : is_sole has_one_port rule.operations ≡ true = right_of _ _ (left_of _ _ h) in
-    let others : list_all has_one_operation rules ≡ true = right_of _ _ h in
+    let sole : is_sole has_one_port rule.operations ≡ true = (and_parts _ _ (and_parts _ _ h).0).1 in
+    let others : list_all has_one_operation rules ≡ true = (and_parts _ _ h).1 in
     rw (rule-back (rule_name policy k) rule.operations sole, rules-back policy (k + 1) rules others) refl
 
 one-back : (policy : AuthorizationPolicy) (chosen : Bool) → has_few_rules policy ≡ true
@@ -78,7 +81,7 @@ one-back : (policy : AuthorizationPolicy) (chosen : Bool) → has_few_rules poli
 one-back policy false h = refl
 one-back policy true h =
     ap (λ policies. named_policies (direct policies)) (append-nil (rule_policies policy 0 policy.rules))
-    ∙ rules-back policy 0 policy.rules (right_of _ _ (right_of _ _ h))
+    ∙ rules-back policy 0 policy.rules (and_parts _ _ (and_parts _ _ h).1).1
     ∙ ap (λ policies. Some policies) (sym (append-nil (rule_policies policy 0 policy.rules)))
 
 policies-back : (pod : Pod) (policies : List AuthorizationPolicy) → are_buildable policies ≡ true
@@ -101,11 +104,14 @@ with-filter policies back = rw back refl
 without-filter : listener_in (written (listener_with [])) ≡ Some (listener_with [])
 without-filter = refl
 
-pub spelled : (bundle : Bundle) (pod : Pod) → is_buildable bundle ≡ true → listener_in (written (built bundle pod)) ≡ Some (built bundle pod)
+pub spelled : (bundle : Bundle) (pod : Pod) → is_buildable bundle ≡ true
+    → listener_in (written (built bundle pod)) ≡ Some (built bundle pod)
 unfolding built
 spelled bundle pod h = at (list_any (applies pod) bundle.authorization) where
-  back : policies_in (object (form.policies (policies_of (filter (applies pod) bundle.authorization)))) ≡ Some (policies_of (filter (applies pod) bundle.authorization))
-  back = object-back _ (policies-rise pod bundle.authorization (policies-of bundle h)) (policies-back pod bundle.authorization (policies-of bundle h))
+  back : policies_in (object (form.policies (policies_of (filter (applies pod) bundle.authorization))))
+      ≡ Some (policies_of (filter (applies pod) bundle.authorization))
+  back = object-back _ (policies-rise pod bundle.authorization (policies-of bundle h))
+      (policies-back pod bundle.authorization (policies-of bundle h))
 
   at : (some_applies : Bool) → let filters = cond some_applies (allow_filter (filter (applies pod) bundle.authorization) ∷ []) [] in
       listener_in (written (listener_with filters)) ≡ Some (listener_with filters)

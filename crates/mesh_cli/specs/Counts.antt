@@ -2,7 +2,6 @@
 use Rattle.std.specs.Prelude.{ℕ, List, ◌++◌, length, codes}
 use Rattle.std.specs.Fmt.{decimal}
 use Rattle.mesh_policy.specs.declared.bundle.Bundle.{Bundle}
-use Rattle.mesh_cli.specs.declared.counts.TheConstants.{ACCEPTED, PODS, SERVICES, AUTHORIZATION, PEER, REQUEST, MESH, OTHER}
 
 abbrev pub count_text : List ℕ → ℕ → List ℕ
 count_text name count = codes " " ++ name ++ codes " " ++ decimal count
@@ -14,11 +13,11 @@ front ▹ part = front ++ part
 
 unfoldable pub counts_text : Bundle → List ℕ
 counts_text bundle =
-    ACCEPTED.now
-    ▹ count_text PODS.now (length bundle.pods)
-    ▹ count_text SERVICES.now (length bundle.services)
-    ▹ count_text AUTHORIZATION.now (length bundle.authorization)
-    ▹ count_text PEER.now (length bundle.peers)
-    ▹ count_text REQUEST.now (length bundle.requests)
-    ▹ count_text MESH.now bundle.mesh_items
-    ▹ count_text OTHER.now bundle.others
+    codes "accepted:"
+    ▹ count_text (codes "pods") (length bundle.pods)
+    ▹ count_text (codes "services") (length bundle.services)
+    ▹ count_text (codes "authorization") (length bundle.authorization)
+    ▹ count_text (codes "peer") (length bundle.peers)
+    ▹ count_text (codes "request") (length bundle.requests)
+    ▹ count_text (codes "mesh") bundle.mesh_items
+    ▹ count_text (codes "other") bundle.others

@@ -2,17 +2,20 @@
 use Rattle.std.specs.Prelude.{◌≡◌, ℕ, List, [], Some, None}
 use Rattle.serde_json.specs.Data.{Data}
 use Rattle.mesh_doc.specs.Faults.{first}
-use Rattle.manifest_json.specs.BundleItems.{bundle_faults, bundle_in}
+use Rattle.manifest_json.specs.Document.{bundle_faults, bundle_in}
 use Rattle.mesh_policy.specs.declared.bundle.Bundle.{Bundle}
 use Rattle.mesh_policy.specs.declared.pod.Pod.{Pod}
 use Rattle.mesh_policy.specs.declared.case.Case.{Case}
-use Rattle.mesh_policy.specs.MeshVerdict.{mesh_verdict}
+use Rattle.mesh_policy.specs.Verdicts.{verdict_of}
+use Rattle.mesh_policy.specs.Workload.{workload_of}
 use Rattle.envoy_types.specs.declared.listener.Listener.{Listener}
 use Rattle.envoy_types.specs.EnvoyVerdict.{envoy_verdict}
 use Rattle.envoy_types.specs.Spells.{Spells}
+use Rattle.mesh_cli.specs.declared.words.Command.{Command}
+use Rattle.mesh_cli.specs.declared.words.Command.TheVariants.{Translate}
 use Rattle.mesh_cli.specs.Answer.{document_of, pod_named}
-use Rattle.mesh_cli.specs.Command.{PodName}
 use Rattle.mesh_cli.specs.FirstForm.{not_yet}
+use Rattle.mesh_cli.specs.PodName.{PodName}
 
 -- The text is JSON, its value spells one listener and no other, and that listener gives every connection
 -- the verdict of the policies: the outcome and the audit mark.
@@ -22,7 +25,7 @@ pub record Enforces (bundle : Bundle) (pod : Pod) (text : List ℕ) : Type 0 whe
   pub listener : Listener
   pub spells : Spells value listener
   pub only : (other : Listener) → Spells value other → other ≡ listener
-  pub verdicts : (case : Case) → envoy_verdict listener case ≡ mesh_verdict bundle pod case
+  pub verdicts : (case : Case) → envoy_verdict listener case ≡ verdict_of (workload_of bundle pod) case
 
 -- The input spells manifests without a fault, which a listener is built for so far, and one of their Pods has that
 -- name. The manifests are `bundle_in` of the document.
@@ -33,3 +36,9 @@ pub record Accepted (name : PodName) (bytes : List ℕ) : Type 0 where
   pub buildable : not_yet document (bundle_in document) ≡ None
   pub pod : Pod
   pub selected : pod_named name (bundle_in document) ≡ Some pod
+
+-- The text enforces the policies, where the command asks for the listener of a Pod and the bytes are accepted for it.
+abbrev pub EnforcesFor : Command → List ℕ → List ℕ → Type 0
+EnforcesFor command bytes text =
+    (name : PodName) → command ≡ Translate name → (accepted : Accepted name bytes)
+    → Enforces (bundle_in accepted.document) accepted.pod text

@@ -1,13 +1,11 @@
 -- What the notes take.
-use Rattle.std.specs.Prelude.{ℕ, List, Option, codes}
-use Rattle.std.specs.Io.KnownBytes.{Appends}
-use Rattle.mesh_edge.specs.Causes.{Rose}
-use Rattle.mesh_edge.specs.Progress.{TakesFront}
+use Rattle.std.specs.Prelude.{ℕ, List, codes}
+use Rattle.mesh_edge.specs.Sink.{KnownSink, Adds, AddsFront, WriteFaulted}
 
--- the whole line, where their count didn't rise, and else a front of it
-pub record Notes (faults faults' : ℕ) (taken taken' : Option (List ℕ)) (line : List ℕ) : Type 0 where
-  pub whole : ¬ Rose faults faults' → Appends taken taken' line
-  pub front : TakesFront taken taken' line
+-- the whole line, where their count of faults didn't rise, and else a front of it
+pub record Notes (old new : KnownSink) (line : List ℕ) : Type 0 where
+  pub whole : ¬ WriteFaulted old new → Adds old new line
+  pub front : AddsFront old new line
 
 abbrev pub usage_line : List ℕ
 usage_line = codes "usage: mesh translate|decide|explain|size NS/POD, mesh eval|check, mesh sample N\n"

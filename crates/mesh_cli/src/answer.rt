@@ -1,26 +1,25 @@
 // What a command answers to the bytes of its input.
 ghost use Rattle.std.specs.Prelude.{◌≡◌, ◌≤◌, [], None, Some, length, string_bytes, option_copied, IfOk, IfErr, OnOk};
-ghost use Rattle.mesh_doc.specs.Faults.{first};
-ghost use Rattle.mesh_doc.specs.Printed.{shown};
-ghost use Rattle.mesh_doc.specs.Reasons.{name_of};
-ghost use Rattle.manifest_json.specs.BundleItems.{bundle_faults, bundle_in};
-ghost use Rattle.mesh_policy.specs.declared.pod.Pod.{Pod as Named};
 ghost use Rattle.serde_json.specs.View.{view};
+ghost use Rattle.mesh_doc.specs.Faults.{first};
+ghost use Rattle.manifest_json.specs.Document.{bundle_faults, bundle_in};
+ghost use Rattle.mesh_policy.specs.declared.pod.Pod.{Pod as Named};
 ghost use Rattle.mesh_cli.specs.Answer as answer;
-ghost use Rattle.mesh_cli.specs.Command.{Command as Asked, PodName, pod_at, translate as translate_pod};
 ghost use Rattle.mesh_cli.specs.FirstForm.{not_yet as waits};
-ghost use Rattle.mesh_cli.specs.Headline.{Accepted, Enforces};
-ghost use Rattle.mesh_cli.specs.Meant.{meant};
+ghost use Rattle.mesh_cli.specs.Headline.{Enforces, EnforcesFor};
+ghost use Rattle.mesh_cli.specs.Refusal.{Answer, Stops, writes};
+ghost use Rattle.mesh_cli.specs.declared.words.Command.{Command as Asked};
 
 use crate::counts::counts_text;
 use crate::first_form::not_yet;
-use crate::refusal::{Stop, refuse};
+use crate::pod_name::PodName;
+use crate::refusal::{Stop, refuse, refuse_fault};
 use crate::text::listener_text;
 use crate::words::Command;
 use manifest_json::read_bundle;
-use mesh_doc::{DocError, Fault, place_text};
+use mesh_doc::DocError;
 use mesh_policy::{Bundle, Pod};
-use mesh_text::List;
+use mesh_text::{List, Memory};
 use serde_json::Value;
 use std::alloc::Global;
 
@@ -28,28 +27,15 @@ use std::alloc::Global;
 #[tactic(auto, unfolding(crate::specs::Answer::answer_of))]
 pub fn respond(alloc: Global, command: &Command, bytes: &[u8]) -> Result<String, Stop>
     requires { length bytes.now ≤ answer.max_input }
-    ensures ok { IfOk result (λ s. answer.answer_of (meant command.now) bytes.now ≡ answer.writes (string_bytes s)) }
-    ensures enforces { IfOk result (λ s. (name : PodName) → meant command.now ≡ translate_pod name
-        → (accepted : Accepted name bytes.now)
-        → Enforces (bundle_in accepted.document) accepted.pod (string_bytes s)) }
-    ensures err { IfErr result (λ why. answer.Stops why (answer.answer_of (meant command.now) bytes.now)) }
+    ensures ok { IfOk result (λ s. answer.answer_of command.now bytes.now ≡ writes (string_bytes s)) }
+    ensures enforces { IfOk result (λ s. EnforcesFor command.now bytes.now (string_bytes s)) }
+    ensures err { IfErr result (λ why. Stops why (answer.answer_of command.now bytes.now)) }
 {
-    let document = match read_document(alloc, bytes) {
-        Ok(document) => document,
-        Err(stop) => return Err(stop),
-    };
-    let bundle = match read_manifests(alloc, &document) {
-        Ok(bundle) => bundle,
-        Err(stop) => return Err(stop),
-    };
-    match *command {
-        Command::Check => match counts_text(alloc, &bundle) {
-            Ok(text) => Ok(text),
-            Err(_) => Err(Stop::Memory),
-        },
-        Command::Translate(namespace, name) => {
-            translate(alloc, &document, &bundle, namespace, name)
-        }
+    let document = read_document(alloc, bytes)?;
+    let bundle = read_manifests(alloc, &document)?;
+    match command {
+        Command::Check => Ok(counts_text(alloc, &bundle)?),
+        Command::Translate(name) => translate(alloc, &document, &bundle, name),
     }
 }
 
@@ -57,7 +43,7 @@ pub fn respond(alloc: Global, command: &Command, bytes: &[u8]) -> Result<String,
 fn read_document(alloc: Global, bytes: &[u8]) -> Result<Value, Stop>
     ensures ok { IfOk result (λ v. answer.document_of bytes.now ≡ Some (view v)) }
     ensures err { IfErr result (λ why. (asked : Asked)
-        → answer.Stops why (answer.answer_to asked (answer.document_of bytes.now))) }
+        → Stops why (answer.answer_to asked (answer.document_of bytes.now))) }
 {
     match Value::from_slice(alloc, bytes) {
         Ok(document) => Ok(document),
@@ -74,8 +60,8 @@ fn read_document(alloc: Global, bytes: &[u8]) -> Result<Value, Stop>
 fn read_manifests(alloc: Global, document: &Value) -> Result<Bundle, Stop>
     ensures faultless { OnOk result (first (bundle_faults (view document.now) []) ≡ None) }
     ensures ok { IfOk result (λ b. b ≡ bundle_in (view document.now)) }
-    ensures err { IfErr result (λ why. (rest : answer.Answer)
-        → answer.Stops why (answer.answer_unless (first (bundle_faults (view document.now) [])) rest)) }
+    ensures err { IfErr result (λ why. (rest : Answer)
+        → Stops why (answer.answer_unless (first (bundle_faults (view document.now) [])) rest)) }
 {
     match read_bundle(alloc, document, &List::new(alloc)) {
         Ok(bundle) => Ok(bundle),
@@ -84,66 +70,41 @@ fn read_manifests(alloc: Global, document: &Value) -> Result<Bundle, Stop>
     }
 }
 
-fn refuse_fault(alloc: Global, fault: &Fault) -> Stop
-    ensures { answer.Stops result (answer.refusal (shown fault.now.place) (name_of fault.now.reason)) }
-{
-    match place_text(alloc, &fault.place) {
-        Ok(place) => refuse(alloc, place.as_str(), fault.reason.name()),
-        Err(_) => Stop::Memory,
-    }
-}
-
 // The listener of the named Pod.
 fn translate(
     alloc: Global,
     document: &Value,
     bundle: &Bundle,
-    namespace: &str,
-    name: &str,
+    name: &PodName,
 ) -> Result<String, Stop>
-    ensures ok { IfOk result (λ s.
-        answer.translation (pod_at namespace.now name.now) bundle.now (waits (view document.now) bundle.now)
-        ≡ answer.writes (string_bytes s)) }
+    ensures ok { IfOk result (λ s. answer.translation name.now bundle.now (waits (view document.now) bundle.now)
+        ≡ writes (string_bytes s)) }
     ensures enforces { IfOk result (λ s. (pod : Named) → waits (view document.now) bundle.now ≡ None
-        → answer.pod_named (pod_at namespace.now name.now) bundle.now ≡ Some pod
-        → Enforces bundle.now pod (string_bytes s)) }
-    ensures err { IfErr result (λ why. answer.Stops why
-        (answer.translation (pod_at namespace.now name.now) bundle.now (waits (view document.now) bundle.now))) }
+        → answer.pod_named name.now bundle.now ≡ Some pod → Enforces bundle.now pod (string_bytes s)) }
+    ensures err { IfErr result (λ why. Stops why
+        (answer.translation name.now bundle.now (waits (view document.now) bundle.now))) }
 {
     match not_yet(document, bundle) {
         None => {}
         Some(spot) => return Err(refuse(alloc, spot.text(), "NotYet")),
     }
-    let Some(pod) = pod_named(bundle, namespace, name) else {
-        return Err(no_workload(alloc, namespace, name));
+    let Some(pod) = pod_named(bundle, name) else {
+        return Err(no_workload(alloc, name));
     };
-    match listener_text(alloc, bundle, pod) {
-        Ok(text) => Ok(text),
-        Err(_) => Err(Stop::Memory),
+    Ok(listener_text(alloc, bundle, pod)?)
+}
+
+fn no_workload(alloc: Global, name: &PodName) -> Stop
+    ensures { Stops result (answer.no_workload name.now) }
+{
+    match name.text(alloc) {
+        Ok(place) => refuse(alloc, &place, "NoWorkload"),
+        Err(Memory) => Stop::Memory,
     }
 }
 
-fn no_workload(alloc: Global, namespace: &str, name: &str) -> Stop
-    ensures { answer.Stops result (answer.no_workload (pod_at namespace.now name.now)) }
+fn pod_named<'a>(bundle: &'a Bundle, name: &PodName) -> Option<&'a Pod>
+    ensures { option_copied result ≡ answer.pod_named name.now bundle.now }
 {
-    match format!(in alloc; "{}/{}", namespace, name) {
-        Ok(place) => refuse(alloc, place.as_str(), "NoWorkload"),
-        Err(_) => Stop::Memory,
-    }
-}
-
-fn pod_named<'a>(bundle: &'a Bundle, namespace: &str, name: &str) -> Option<&'a Pod>
-    ensures { option_copied result ≡ answer.pod_named (pod_at namespace.now name.now) bundle.now }
-{
-    bundle
-        .pods
-        .as_slice()
-        .iter()
-        .find(|pod| is_named(pod, namespace, name))
-}
-
-fn is_named(pod: &Pod, namespace: &str, name: &str) -> bool
-    ensures { result ≡ answer.is_named (pod_at namespace.now name.now) pod.now }
-{
-    pod.namespace.as_str() == namespace && pod.name.as_str() == name
+    bundle.pods.iter().find(|pod| name.is_of(pod))
 }

@@ -1,19 +1,21 @@
 // Builds the listener that enforces the policies of a Pod.
-ghost use Rattle.std.specs.Prelude.{◌≡◌, codes, true, false, IfOk, IsTrue};
+ghost use Rattle.std.specs.Prelude.{◌≡◌, IfOk, IsTrue};
 ghost use Rattle.mesh_policy.specs.Connection as connection;
-ghost use Rattle.mesh_cli.specs.Built as meaning;
+ghost use Rattle.mesh_cli.specs.Build as meaning;
+ghost use Rattle.mesh_cli.specs.BuildRules.{filters_of};
+ghost use Rattle.mesh_cli.specs.Buildable.{is_buildable};
 
 use crate::build_rules::filters;
 use envoy_types::{ChainBody, ChainMatch, FilterChain, Listener, NetworkFilter, Transport};
-use mesh_policy::{Bundle, Pod};
+use mesh_policy::{Bundle, MESH_PROTOCOLS, Pod};
 use mesh_text::{List, Memory, Text};
 use std::alloc::Global;
 
 /// The listener of a Pod. For the ports that no chain names it has a chain each for mutual TLS, for
 /// plain text and for TLS that is passed on unread.
-#[tactic(auto, unfolding(crate::specs::Built::built))]
+#[tactic(auto, unfolding(crate::specs::Build::built))]
 pub fn build(alloc: Global, bundle: &Bundle, pod: &Pod) -> Result<Listener, Memory>
-    requires { IsTrue (meaning.is_buildable bundle.now) }
+    requires { IsTrue (is_buildable bundle.now) }
     ensures { IfOk result (λ l. l ≡ meaning.built bundle.now pod.now) }
 {
     let mut chains = List::new(alloc);
@@ -29,9 +31,8 @@ pub fn build(alloc: Global, bundle: &Bundle, pod: &Pod) -> Result<Listener, Memo
 }
 
 fn mutual_chain(alloc: Global, bundle: &Bundle, pod: &Pod) -> Result<FilterChain, Memory>
-    requires { IsTrue (meaning.is_buildable bundle.now) }
-    ensures { IfOk result (λ c. c ≡ meaning.chain_of (codes "any-mtls") meaning.mutual_match true
-        (meaning.filters_of bundle.now pod.now)) }
+    requires { IsTrue (is_buildable bundle.now) }
+    ensures { IfOk result (λ c. c ≡ meaning.mutual_chain (filters_of bundle.now pod.now)) }
 {
     let matching = ChainMatch {
         port: None,
@@ -48,9 +49,8 @@ fn mutual_chain(alloc: Global, bundle: &Bundle, pod: &Pod) -> Result<FilterChain
 }
 
 fn plain_chain(alloc: Global, bundle: &Bundle, pod: &Pod) -> Result<FilterChain, Memory>
-    requires { IsTrue (meaning.is_buildable bundle.now) }
-    ensures { IfOk result (λ c. c ≡ meaning.chain_of (codes "any-plain") meaning.plain_match false
-        (meaning.filters_of bundle.now pod.now)) }
+    requires { IsTrue (is_buildable bundle.now) }
+    ensures { IfOk result (λ c. c ≡ meaning.plain_chain (filters_of bundle.now pod.now)) }
 {
     let matching = ChainMatch {
         port: None,
@@ -67,9 +67,8 @@ fn plain_chain(alloc: Global, bundle: &Bundle, pod: &Pod) -> Result<FilterChain,
 }
 
 fn opaque_chain(alloc: Global, bundle: &Bundle, pod: &Pod) -> Result<FilterChain, Memory>
-    requires { IsTrue (meaning.is_buildable bundle.now) }
-    ensures { IfOk result (λ c. c ≡ meaning.chain_of (codes "any-opaque") meaning.opaque_match false
-        (meaning.filters_of bundle.now pod.now)) }
+    requires { IsTrue (is_buildable bundle.now) }
+    ensures { IfOk result (λ c. c ≡ meaning.opaque_chain (filters_of bundle.now pod.now)) }
 {
     let matching = ChainMatch {
         port: None,
@@ -90,11 +89,9 @@ fn mesh_names(alloc: Global) -> Result<List<Text>, Memory>
     ensures { IfOk result (λ names. names ≡ connection.mesh_names) }
 {
     let mut names = List::new(alloc);
-    names.push(Text::of(alloc, "istio")?)?;
-    names.push(Text::of(alloc, "istio-peer-exchange")?)?;
-    names.push(Text::of(alloc, "istio-http/1.0")?)?;
-    names.push(Text::of(alloc, "istio-http/1.1")?)?;
-    names.push(Text::of(alloc, "istio-h2")?)?;
+    for name in &MESH_PROTOCOLS {
+        names.push(Text::of(alloc, name)?)?;
+    }
     Ok(names)
 }
 

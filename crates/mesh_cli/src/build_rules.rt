@@ -3,18 +3,19 @@ ghost use Rattle.std.specs.Prelude.{◌≡◌, ◌≤◌, ◌+◌, ◌<◌, ◌^
 ghost use Rattle.std.specs.List.{list_any};
 ghost use Rattle.envoy_types.specs.declared.rbac.PermissionLeaf.TheVariants.{DestinationPort};
 ghost use Rattle.mesh_policy.specs.Applies as apply;
-ghost use Rattle.mesh_cli.specs.Built as meaning;
+ghost use Rattle.mesh_cli.specs.BuildRules as meaning;
+ghost use Rattle.mesh_cli.specs.Buildable.{are_buildable, is_buildable};
 
 use envoy_types::{
     NetworkFilter, PermissionLeaf, Principal, Rbac, RbacAction, RbacPolicy, RbacRules,
 };
-use mesh_policy::{AuthorizationPolicy, Bundle, OperationSpec, Pod, Rule, applies};
+use mesh_policy::{AuthorizationPolicy, Bundle, OperationSpec, Pod, ROOT_NAMESPACE, Rule};
 use mesh_text::{List, Memory, Text};
 use std::alloc::Global;
 
 /// The filters of each chain: that of the ALLOW policies, where one applies.
 pub fn filters(alloc: Global, bundle: &Bundle, pod: &Pod) -> Result<List<NetworkFilter>, Memory>
-    requires { IsTrue (meaning.is_buildable bundle.now) }
+    requires { IsTrue (is_buildable bundle.now) }
     ensures { IfOk result (λ fs. fs ≡ meaning.filters_of bundle.now pod.now) }
 {
     let policies = bundle.authorization.as_slice();
@@ -31,12 +32,20 @@ fn some_applies(policies: &[AuthorizationPolicy], pod: &Pod) -> bool
     policies.iter().any(|policy| applies(pod, policy))
 }
 
+// Whether a policy applies to a Pod: it is of the Pod's namespace, or of the root namespace.
+fn applies(pod: &Pod, policy: &AuthorizationPolicy) -> bool
+    ensures { result ≡ apply.applies pod.now policy.now }
+{
+    let namespace = policy.namespace.as_str();
+    namespace == pod.namespace.as_str() || namespace == ROOT_NAMESPACE
+}
+
 fn sole_filter(
     alloc: Global,
     policies: &[AuthorizationPolicy],
     pod: &Pod,
 ) -> Result<List<NetworkFilter>, Memory>
-    requires { IsTrue (meaning.are_buildable policies.now) }
+    requires { IsTrue (are_buildable policies.now) }
     ensures { IfOk result (λ fs.
         fs ≡ meaning.allow_filter (filter (apply.applies pod.now) policies.now) ∷ []) }
 {
@@ -50,7 +59,7 @@ fn allow_filter(
     policies: &[AuthorizationPolicy],
     pod: &Pod,
 ) -> Result<NetworkFilter, Memory>
-    requires { IsTrue (meaning.are_buildable policies.now) }
+    requires { IsTrue (are_buildable policies.now) }
     ensures { IfOk result (λ f. f ≡ meaning.allow_filter (filter (apply.applies pod.now) policies.now)) }
 {
     let policies = policies_of(alloc, policies, pod)?;
@@ -99,7 +108,7 @@ fn push_rules(
 ) -> Result<(), Memory>
     ensures { OnOk result (found.new ≡ found.old ++ meaning.rule_policies policy.now 0 policy.now.rules) }
 {
-    for (index, rule) in policy.rules.as_slice().iter().enumerate() {
+    for (index, rule) in policy.rules.iter().enumerate() {
         found.push(rule_policy(alloc, policy, index, rule)?)?;
     }
     Ok(())
@@ -138,7 +147,7 @@ fn permissions(alloc: Global, rule: &Rule) -> Result<List<PermissionLeaf>, Memor
     ensures { IfOk result (λ ps. ps ≡ meaning.permissions_of rule.now.operations) }
 {
     let mut permissions = List::new(alloc);
-    for operation in rule.operations.as_slice() {
+    for operation in rule.operations.iter() {
         push_ports(&mut permissions, operation)?;
     }
     Ok(permissions)
@@ -150,7 +159,7 @@ fn push_ports(
 ) -> Result<(), Memory>
     ensures { OnOk result (permissions.new ≡ permissions.old ++ map DestinationPort operation.now.ports) }
 {
-    for port in operation.ports.as_slice() {
+    for port in operation.ports.iter() {
         permissions.push(PermissionLeaf::DestinationPort(*port))?;
     }
     Ok(())

@@ -1,30 +1,24 @@
 // Which manifests a listener is built for so far.
 ghost use Rattle.std.specs.Prelude.{◌≡◌};
 ghost use Rattle.std.specs.List.{list_all};
-ghost use Rattle.mesh_cli.specs.Built as meaning;
+ghost use Rattle.mesh_cli.specs.Buildable as meaning;
 
-use mesh_policy::{Action, AuthorizationPolicy, Bundle, OperationSpec, Rule};
+use mesh_policy::{Action, AuthorizationPolicy, Bundle, OperationSpec, ROOT_NAMESPACE, Rule};
 
 /// Whether the manifests are one policy at most, of rules with one port each, and Pods.
 pub fn is_buildable(bundle: &Bundle) -> bool
     ensures { result ≡ meaning.is_buildable bundle.now }
 {
-    is_of_authorization(bundle) && are_buildable(bundle.authorization.as_slice())
+    is_of_authorization(bundle) && are_buildable(&bundle.authorization)
 }
 
 fn is_of_authorization(bundle: &Bundle) -> bool
     ensures { result ≡ meaning.is_of_authorization bundle.now }
 {
-    is_empty(bundle.services.as_slice())
-        && is_empty(bundle.peers.as_slice())
-        && is_empty(bundle.requests.as_slice())
-        && bundle.mesh.root.as_str() == "istio-system"
-}
-
-fn is_empty<T>(items: &[T]) -> bool
-    ensures { result ≡ meaning.is_empty items.now }
-{
-    items.split_first().is_none()
+    bundle.services.is_empty()
+        && bundle.peers.is_empty()
+        && bundle.requests.is_empty()
+        && bundle.mesh.root.as_str() == ROOT_NAMESPACE
 }
 
 fn are_buildable(policies: &[AuthorizationPolicy]) -> bool
@@ -42,9 +36,7 @@ fn are_buildable(policies: &[AuthorizationPolicy]) -> bool
 fn has_few_rules(policy: &AuthorizationPolicy) -> bool
     ensures { result ≡ meaning.has_few_rules policy.now }
 {
-    is_empty(policy.labels.as_slice())
-        && policy.action == Action::Allow
-        && are_few(policy.rules.as_slice())
+    policy.labels.is_empty() && policy.action == Action::Allow && are_few(&policy.rules)
 }
 
 fn are_few(rules: &[Rule]) -> bool
@@ -62,9 +54,7 @@ fn all_of_one_operation(rules: &[Rule]) -> bool
 fn has_one_operation(rule: &Rule) -> bool
     ensures { result ≡ meaning.has_one_operation rule.now }
 {
-    is_empty(rule.sources.as_slice())
-        && is_empty(rule.conditions.as_slice())
-        && is_one_operation(rule.operations.as_slice())
+    rule.sources.is_empty() && rule.conditions.is_empty() && is_one_operation(&rule.operations)
 }
 
 fn is_one_operation(operations: &[OperationSpec]) -> bool
@@ -82,19 +72,19 @@ fn is_one_operation(operations: &[OperationSpec]) -> bool
 fn has_one_port(operation: &OperationSpec) -> bool
     ensures { result ≡ meaning.has_one_port operation.now }
 {
-    is_of_ports(operation) && is_of_one_port(operation.ports.as_slice())
+    is_of_ports(operation) && is_of_one_port(&operation.ports)
 }
 
 fn is_of_ports(operation: &OperationSpec) -> bool
     ensures { result ≡ meaning.is_of_ports operation.now }
 {
-    is_empty(operation.hosts.as_slice())
-        && is_empty(operation.not_hosts.as_slice())
-        && is_empty(operation.not_ports.as_slice())
-        && is_empty(operation.methods.as_slice())
-        && is_empty(operation.not_methods.as_slice())
-        && is_empty(operation.paths.as_slice())
-        && is_empty(operation.not_paths.as_slice())
+    operation.hosts.is_empty()
+        && operation.not_hosts.is_empty()
+        && operation.not_ports.is_empty()
+        && operation.methods.is_empty()
+        && operation.not_methods.is_empty()
+        && operation.paths.is_empty()
+        && operation.not_paths.is_empty()
 }
 
 fn is_of_one_port(ports: &[u16]) -> bool

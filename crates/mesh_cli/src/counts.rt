@@ -6,39 +6,19 @@ use mesh_policy::Bundle;
 use mesh_text::Memory;
 use std::alloc::Global;
 
-const ACCEPTED: &str = "accepted:";
-
-const PODS: &str = "pods";
-
-const SERVICES: &str = "services";
-
-const AUTHORIZATION: &str = "authorization";
-
-const PEER: &str = "peer";
-
-const REQUEST: &str = "request";
-
-const MESH: &str = "mesh";
-
-const OTHER: &str = "other";
-
 /// How many items of each kind were read, and how many others were passed over.
 #[tactic(auto, unfolding(crate::specs::Counts::counts_text))]
 pub fn counts_text(alloc: Global, bundle: &Bundle) -> Result<String, Memory>
     ensures { IfOk result (λ s. string_bytes s ≡ counts_text bundle.now) }
 {
-    let mut text = String::from_str(alloc, ACCEPTED)?;
-    push_count(&mut text, PODS, bundle.pods.as_slice().len())?;
-    push_count(&mut text, SERVICES, bundle.services.as_slice().len())?;
-    push_count(
-        &mut text,
-        AUTHORIZATION,
-        bundle.authorization.as_slice().len(),
-    )?;
-    push_count(&mut text, PEER, bundle.peers.as_slice().len())?;
-    push_count(&mut text, REQUEST, bundle.requests.as_slice().len())?;
-    push_count(&mut text, MESH, bundle.mesh_items as usize)?;
-    push_count(&mut text, OTHER, bundle.others as usize)?;
+    let mut text = String::from_str(alloc, "accepted:")?;
+    push_count(&mut text, "pods", bundle.pods.len())?;
+    push_count(&mut text, "services", bundle.services.len())?;
+    push_count(&mut text, "authorization", bundle.authorization.len())?;
+    push_count(&mut text, "peer", bundle.peers.len())?;
+    push_count(&mut text, "request", bundle.requests.len())?;
+    push_count(&mut text, "mesh", bundle.mesh_items as usize)?;
+    push_count(&mut text, "other", bundle.others as usize)?;
     Ok(text)
 }
 

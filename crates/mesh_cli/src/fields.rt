@@ -5,7 +5,7 @@ ghost use Rattle.std.specs.Str.{bytes_eq};
 ghost use Rattle.serde_json.specs.Find.{get, as_array};
 ghost use Rattle.serde_json.specs.View.{view, items_view, members_view};
 ghost use Rattle.envoy_types.specs.Fields as field;
-ghost use Rattle.mesh_cli.specs.FirstForm as form;
+ghost use Rattle.mesh_cli.specs.Fields.{is_kind};
 
 use serde_json::{Map, Value};
 
@@ -62,7 +62,7 @@ fn is_text(value: &Value, text: &str) -> bool
 
 /// Whether the item is of that version and kind.
 pub fn is_kind(item: &Value, version: &str, kind: &str) -> bool
-    ensures { result ≡ form.is_kind version.now kind.now (view item.now) }
+    ensures { result ≡ is_kind version.now kind.now (view item.now) }
 {
     says(item, "apiVersion", version) && says(item, "kind", kind)
 }

@@ -5,19 +5,16 @@ mod answer;
 mod build;
 mod build_rules;
 mod buildable;
-#[cfg(test)]
-mod check_tests;
 mod counts;
 mod fields;
 mod first_form;
 mod notes;
 mod pieces;
+mod pod_name;
 mod print;
 mod print_filters;
 mod program;
 mod refusal;
-#[cfg(test)]
-mod tests;
 mod text;
 mod words;
 

@@ -9,8 +9,7 @@ pub const USAGE: &str =
 
 /// Says a line. That the notes fail has no effect.
 pub fn say<E: Sink>(notes: &mut E, line: &str)
-    ensures { Notes (E.faults notes.old) (E.faults notes.new) (E.taken notes.old) (E.taken notes.new)
-        line.now }
+    ensures { Notes (E.known notes.old) (E.known notes.new) line.now }
 {
     let _ = write_all(notes, line.as_bytes());
 }

@@ -5,7 +5,10 @@ ghost use Rattle.serde_json.specs.View.{view, items_of, members_view};
 ghost use Rattle.envoy_types.specs.Written as form;
 
 use crate::print_filters::body_value;
-use envoy_types::{ChainMatch, FilterChain, Listener, Transport};
+use envoy_types::{
+    ChainMatch, FilterChain, Listener, ORIGINAL_DST_NAME, ORIGINAL_DST_TYPE, TLS_INSPECTOR_NAME,
+    TLS_INSPECTOR_TYPE, TLS_SOCKET_NAME, TLS_SOCKET_TYPE, Transport,
+};
 use mesh_text::{Memory, Text};
 use serde_json::{Map, Value, json};
 use std::alloc::Global;
@@ -14,8 +17,8 @@ use std::alloc::Global;
 pub fn listener_value(alloc: Global, listener: &Listener) -> Result<Value, Memory>
     ensures { IfOk result (λ v. view v ≡ form.written listener.now) }
 {
-    let address = address_value(alloc, listener.address.as_str(), listener.port)?;
-    let chains = chain_values(alloc, listener.chains.as_slice())?;
+    let address = address_value(alloc, &listener.address, listener.port)?;
+    let chains = chain_values(alloc, &listener.chains)?;
     let filters = listener_filters(alloc)?;
     let name = text_value(alloc, &listener.name)?;
     let direction = json!(in alloc; "INBOUND")?;
@@ -39,16 +42,12 @@ fn listener_filters(alloc: Global) -> Result<Value, Memory>
 {
     Ok(json!(in alloc; [
         {
-            "name": "envoy.filters.listener.original_dst",
-            "typed_config": {
-                "@type": "type.googleapis.com/envoy.extensions.filters.listener.original_dst.v3.OriginalDst"
-            }
+            "name": ORIGINAL_DST_NAME,
+            "typed_config": {"@type": ORIGINAL_DST_TYPE}
         },
         {
-            "name": "envoy.filters.listener.tls_inspector",
-            "typed_config": {
-                "@type": "type.googleapis.com/envoy.extensions.filters.listener.tls_inspector.v3.TlsInspector"
-            }
+            "name": TLS_INSPECTOR_NAME,
+            "typed_config": {"@type": TLS_INSPECTOR_TYPE}
         }
     ])?)
 }
@@ -105,14 +104,13 @@ fn tls_socket(alloc: Global) -> Result<Value, Memory>
     ensures { IfOk result (λ v. view v ≡ form.tls_socket) }
 {
     let config = tls_context(alloc)?;
-    Ok(json!(in alloc; {"name": "envoy.transport_sockets.tls", "typed_config": config})?)
+    Ok(json!(in alloc; {"name": TLS_SOCKET_NAME, "typed_config": config})?)
 }
 
 fn tls_context(alloc: Global) -> Result<Value, Memory>
     ensures { IfOk result (λ v. view v ≡ form.tls_context) }
 {
-    let type_name =
-        json!(in alloc; "type.googleapis.com/envoy.extensions.transport_sockets.tls.v3.DownstreamTlsContext")?;
+    let type_name = json!(in alloc; TLS_SOCKET_TYPE)?;
     let secrets = tls_secrets(alloc)?;
     let mut fields = Map::new(alloc);
     serde_json::put(&mut fields, alloc, "@type", type_name)?;
@@ -141,7 +139,7 @@ fn match_value(alloc: Global, matching: &ChainMatch) -> Result<Value, Memory>
     let mut fields = Map::new(alloc);
     put_transport(alloc, &mut fields, matching.transport)?;
     put_port(alloc, &mut fields, matching.port)?;
-    put_names(alloc, &mut fields, matching.alpn.as_slice())?;
+    put_names(alloc, &mut fields, &matching.alpn)?;
     Ok(Value::Object(fields))
 }
 

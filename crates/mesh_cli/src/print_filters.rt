@@ -5,7 +5,8 @@ ghost use Rattle.serde_json.specs.View.{view, items_of, members_view};
 ghost use Rattle.envoy_types.specs.Written as form;
 
 use envoy_types::{
-    ChainBody, NetworkFilter, PermissionLeaf, Principal, RbacAction, RbacPolicy, RbacRules,
+    ChainBody, NETWORK_RBAC_NAME, NETWORK_RBAC_TYPE, NetworkFilter, PermissionLeaf, Principal,
+    RbacAction, RbacPolicy, RbacRules, TCP_PROXY_NAME, TCP_PROXY_TYPE,
 };
 use mesh_text::Memory;
 use serde_json::{Map, Value, json};
@@ -16,9 +17,7 @@ pub fn body_value(alloc: Global, body: &ChainBody) -> Result<Value, Memory>
     ensures { IfOk result (λ v. view v ≡ form.body body.now) }
 {
     match body {
-        ChainBody::Tcp { filters, cluster } => {
-            tcp_filters(alloc, filters.as_slice(), cluster.as_str())
-        }
+        ChainBody::Tcp { filters, cluster } => { tcp_filters(alloc, filters, cluster) }
     }
 }
 
@@ -40,9 +39,9 @@ fn tcp_proxy(alloc: Global, cluster: &str) -> Result<Value, Memory>
     ensures { IfOk result (λ v. view v ≡ form.tcp_proxy cluster.now) }
 {
     Ok(json!(in alloc; {
-        "name": "envoy.filters.network.tcp_proxy",
+        "name": TCP_PROXY_NAME,
         "typed_config": {
-            "@type": "type.googleapis.com/envoy.extensions.filters.network.tcp_proxy.v3.TcpProxy",
+            "@type": TCP_PROXY_TYPE,
             "cluster": cluster,
             "stat_prefix": cluster
         }
@@ -55,7 +54,7 @@ fn filter_value(alloc: Global, filter: &NetworkFilter) -> Result<Value, Memory>
     match filter {
         NetworkFilter::Rbac(rbac) => {
             let config = rbac_config(alloc, rbac.rules.as_ref())?;
-            Ok(json!(in alloc; {"name": "envoy.filters.network.rbac", "typed_config": config})?)
+            Ok(json!(in alloc; {"name": NETWORK_RBAC_NAME, "typed_config": config})?)
         }
     }
 }
@@ -63,8 +62,7 @@ fn filter_value(alloc: Global, filter: &NetworkFilter) -> Result<Value, Memory>
 fn rbac_config(alloc: Global, rules: Option<&RbacRules>) -> Result<Value, Memory>
     ensures { IfOk result (λ v. view v ≡ form.rbac_config (option_copied rules.entry)) }
 {
-    let type_name =
-        json!(in alloc; "type.googleapis.com/envoy.extensions.filters.network.rbac.v3.RBAC")?;
+    let type_name = json!(in alloc; NETWORK_RBAC_TYPE)?;
     let prefix = json!(in alloc; "tcp.")?;
     let mut fields = Map::new(alloc);
     serde_json::put(&mut fields, alloc, "@type", type_name)?;
@@ -94,7 +92,7 @@ fn put_rules(
 fn rules_value(alloc: Global, rules: &RbacRules) -> Result<Value, Memory>
     ensures { IfOk result (λ v. view v ≡ form.rules rules.now) }
 {
-    let policies = policies_value(alloc, rules.policies.as_slice())?;
+    let policies = policies_value(alloc, &rules.policies)?;
     let action = action_name(rules.action);
     Ok(json!(in alloc; {"action": action, "policies": policies})?)
 }
@@ -126,8 +124,8 @@ fn policies_value(alloc: Global, policies: &[RbacPolicy]) -> Result<Value, Memor
 fn policy_value(alloc: Global, policy: &RbacPolicy) -> Result<Value, Memory>
     ensures { IfOk result (λ v. view v ≡ form.policy policy.now) }
 {
-    let permissions = permission_values(alloc, policy.permissions.as_slice())?;
-    let principals = principal_values(alloc, policy.principals.as_slice())?;
+    let permissions = permission_values(alloc, &policy.permissions)?;
+    let principals = principal_values(alloc, &policy.principals)?;
     Ok(json!(in alloc; {"permissions": permissions, "principals": principals})?)
 }
 

@@ -1,14 +1,11 @@
 // The top call.
-ghost use Rattle.std.specs.Prelude.{◌≡◌, ◌≤◌, ◌↔◌, ◌++◌, Some, None, List, ℕ, length, map, string_bytes, IfOk, IfErr, OnOk, OnErr};
-ghost use Rattle.std.specs.Io.KnownBytes.{Appends, IsAtEnd, Keeps};
-ghost use Rattle.mesh_edge.specs.Causes.{Rose};
-ghost use Rattle.mesh_edge.specs.Progress.{AllFlushed, TakesFront, TakesSome};
-ghost use Rattle.mesh_cli.specs.Answer.{answer_of, max_input, newline, writes};
-ghost use Rattle.mesh_cli.specs.Command.{Command as Asked, PodName, command_of, translate};
-ghost use Rattle.mesh_cli.specs.Ends.{Answers, Delivers, Finishes, IsDone, IsMemory, IsReadFault, IsRefused, IsUsage, IsWriteFault, StopsInput, Writes};
-ghost use Rattle.mesh_cli.specs.Headline.{Accepted, Enforces};
-ghost use Rattle.mesh_cli.specs.Meant.{meant};
-ghost use Rattle.manifest_json.specs.BundleItems.{bundle_in};
+ghost use Rattle.std.specs.Prelude.{◌≡◌, ◌++◌, ◌↔◌, IfErr, IfOk, List, None, Some, OnErr, OnOk, map, string_bytes, ℕ};
+ghost use Rattle.mesh_edge.specs.Sink.{Adds, IsFlushed, NoWriteFault};
+ghost use Rattle.mesh_edge.specs.Source.{IsSpent};
+ghost use Rattle.mesh_cli.specs.Headline.{EnforcesFor};
+ghost use Rattle.mesh_cli.specs.Program as end;
+ghost use Rattle.mesh_cli.specs.Refusal.{newline, writes};
+ghost use Rattle.mesh_cli.specs.Words.{command_of};
 
 use crate::answer::respond;
 use crate::notes::{USAGE, say};
@@ -38,43 +35,22 @@ pub fn run<I: Source, O: Sink, E: Sink>(
     ensures words { (result ≡ Status.Words) ↔ (command_of (map string_bytes words.now.items) ≡ None) }
 
     // What each status tells.
-    ensures usage { result ≡ Status.Words → IsUsage (I.left input.old) (I.left input.new)
-        (O.taken output.old) (O.taken output.new)
-        (E.faults notes.old) (E.faults notes.new) (E.taken notes.old) (E.taken notes.new) }
-    ensures done { result ≡ Status.Done → IsDone (map string_bytes words.now.items)
-        (I.left input.old) (I.left input.new)
-        (O.taken output.old) (O.taken output.new) (O.flushed output.new) }
-    ensures silent { result ≡ Status.Done → Keeps (E.taken notes.old) (E.taken notes.new) }
-    ensures refused { result ≡ Status.Refused → IsRefused (map string_bytes words.now.items)
-        (I.left input.old) (I.left input.new) (O.taken output.old) (O.taken output.new)
-        (E.faults notes.old) (E.faults notes.new) (E.taken notes.old) (E.taken notes.new) }
-    ensures read_fault { result ≡ Status.ReadFault → IsReadFault (I.faults input.old) (I.faults input.new)
-        (I.left input.old) (I.left input.new) (O.taken output.old) (O.taken output.new)
-        (E.faults notes.old) (E.faults notes.new) (E.taken notes.old) (E.taken notes.new) }
-    ensures write_fault { result ≡ Status.WriteFault → IsWriteFault (map string_bytes words.now.items)
-        (I.left input.old) (I.left input.new) (O.faults output.old) (O.faults output.new)
-        (O.taken output.old) (O.taken output.new)
-        (E.faults notes.old) (E.faults notes.new) (E.taken notes.old) (E.taken notes.new) }
+    ensures ends { end.Ends result (map string_bytes words.now.items)
+        (record { input = I.known input.old; output = O.known output.old; notes = E.known notes.old })
+        (record { input = I.known input.new; output = O.known output.new; notes = E.known notes.new }) }
+
     // An input that a command answers with a text has that text written, unless memory, a read or a write failed.
-    ensures complete { (asked : Asked) (bytes text : List ℕ)
-        → command_of (map string_bytes words.now.items) ≡ Some asked
-        → I.left input.old ≡ Some bytes → answer_of asked bytes ≡ writes text
-        → Finishes result
-        (Delivers text (I.left input.new) (O.taken output.old) (O.taken output.new) (O.flushed output.new))
-        (I.faults input.old) (I.faults input.new) (O.faults output.old) (O.faults output.new) }
+    ensures complete { (text : List ℕ) → end.IsAnswered (map string_bytes words.now.items) (I.known input.old) text
+        → end.Completes result text
+        (record { input = I.known input.old; output = O.known output.old; notes = E.known notes.old })
+        (record { input = I.known input.new; output = O.known output.new; notes = E.known notes.new }) }
+
     // For every input that spells manifests and every Pod of theirs: one listener is written, which
     // gives each connection the verdict of the policies, unless memory, a read or a write failed.
-    ensures headline { (name : PodName) (bytes : List ℕ)
-        → command_of (map string_bytes words.now.items) ≡ Some (translate name)
-        → I.left input.old ≡ Some bytes → length bytes ≤ max_input
-        → (accepted : Accepted name bytes)
-        → Finishes result
-        (Writes (bundle_in accepted.document) accepted.pod (I.left input.new)
-        (O.taken output.old) (O.taken output.new) (O.flushed output.new))
-        (I.faults input.old) (I.faults input.new) (O.faults output.old) (O.faults output.new) }
-    ensures memory { result ≡ Status.Memory → IsMemory (I.left input.old) (I.left input.new)
-        (O.taken output.old) (O.taken output.new)
-        (E.faults notes.old) (E.faults notes.new) (E.taken notes.old) (E.taken notes.new) }
+    ensures headline { (asked : end.IsAccepted (map string_bytes words.now.items) (I.known input.old))
+        → end.Serves result asked
+        (record { input = I.known input.old; output = O.known output.old; notes = E.known notes.old })
+        (record { input = I.known input.new; output = O.known output.new; notes = E.known notes.new }) }
 {
     let Some(command) = command_in(words.as_slice()) else {
         say(notes, USAGE);
@@ -97,7 +73,7 @@ pub fn run<I: Source, O: Sink, E: Sink>(
     };
     match deliver(text.as_str(), output) {
         Ok(()) => Status::Done,
-        Err(_) => {
+        Err(WriteFault) => {
             say(notes, "write fault\n");
             Status::WriteFault
         }
@@ -113,43 +89,49 @@ enum InputStop {
     Memory,
 }
 
+impl From<Stop> for InputStop {
+    ghost use Rattle.std.specs.Prelude.{◌≡◌};
+    ghost use Rattle.mesh_cli.specs.Program.{input_stop_of};
+
+    ghost from_gives = { λ stop why. why ≡ input_stop_of stop };
+
+    fn from(stop: Stop) -> InputStop {
+        match stop {
+            Stop::Refused(line) => InputStop::Refused(line),
+            Stop::Memory => InputStop::Memory,
+        }
+    }
+}
+
 // Reads the input and answers it.
 fn answer_input<I: Source>(
     alloc: Global,
     command: &Command,
     input: &mut I,
 ) -> Result<String, InputStop>
-    ensures ok { IfOk result (λ s. Answers (meant command.now)
-        (I.left input.old) (I.left input.new) (writes (string_bytes s))) }
-    ensures at_end { OnOk result (IsAtEnd (I.left input.new)) }
-    ensures enforces { IfOk result (λ s. (name : PodName) (bytes : List ℕ) → meant command.now ≡ translate name
-        → I.left input.old ≡ Some bytes → (accepted : Accepted name bytes)
-        → Enforces (bundle_in accepted.document) accepted.pod (string_bytes s)) }
-    ensures err { IfErr result (λ why. StopsInput (meant command.now)
-        (I.left input.old) (I.left input.new) (I.faults input.old) (I.faults input.new) why) }
+    ensures ok { IfOk result (λ s.
+        end.Answers command.now (I.known input.old) (I.known input.new) (writes (string_bytes s))) }
+    ensures at_end { OnOk result (IsSpent (I.known input.new)) }
+    ensures enforces { IfOk result (λ s. (bytes : List ℕ) → (I.known input.old).left ≡ Some bytes
+        → EnforcesFor command.now bytes (string_bytes s)) }
+    ensures err { IfErr result (end.StopsInput command.now (I.known input.old) (I.known input.new)) }
 {
     let bytes = match read_all(alloc, input, MAX_INPUT) {
         Ok(bytes) => bytes,
         Err(ReadError::Fault) => return Err(InputStop::ReadFault),
         Err(ReadError::Memory) => return Err(InputStop::Memory),
-        Err(ReadError::TooLong) => match refuse(alloc, "input", "TooLong") {
-            Stop::Refused(line) => return Err(InputStop::Refused(line)),
-            Stop::Memory => return Err(InputStop::Memory),
-        },
+        Err(ReadError::TooLong) => return Err(InputStop::from(refuse(alloc, "input", "TooLong"))),
     };
-    match respond(alloc, command, bytes.as_slice()) {
-        Ok(text) => Ok(text),
-        Err(Stop::Refused(line)) => Err(InputStop::Refused(line)),
-        Err(Stop::Memory) => Err(InputStop::Memory),
-    }
+    Ok(respond(alloc, command, bytes.as_slice())?)
 }
 
 // Writes the text and a newline, and flushes.
 fn deliver<O: Sink>(text: &str, output: &mut O) -> Result<(), WriteFault>
-    ensures written { OnOk result (Appends (O.taken output.old) (O.taken output.new) (text.now ++ newline)) }
-    ensures flushed { OnOk result (AllFlushed (O.taken output.new) (O.flushed output.new)) }
-    ensures fault { OnErr result (Rose (O.faults output.old) (O.faults output.new)) }
-    ensures front { TakesFront (O.taken output.old) (O.taken output.new) (text.now ++ newline) }
+    ensures written { OnOk result (Adds (O.known output.old) (O.known output.new) (text.now ++ newline)) }
+    ensures flushed { OnOk result (IsFlushed (O.known output.new)) }
+    ensures faultless { OnOk result (NoWriteFault (O.known output.old) (O.known output.new)) }
+    ensures fault { OnErr result
+        (end.BreaksOff (text.now ++ newline) (O.known output.old) (O.known output.new)) }
 {
     write_two(output, text.as_bytes(), b"\n")?;
     match output.flush() {

@@ -1,7 +1,11 @@
-ghost use Rattle.std.specs.Prelude.{◌≡◌};
-ghost use Rattle.mesh_cli.specs.Answer.{Stops, refusal, spot_text};
+// How a run ends, and the lines of refusals.
+ghost use Rattle.std.specs.Prelude.{◌≡◌, IfOk};
+ghost use Rattle.mesh_doc.specs.Printed as printed;
+ghost use Rattle.mesh_cli.specs.Refusal as meaning;
+ghost use Rattle.mesh_cli.specs.Refusal.{Stops};
 
-use mesh_text::Text;
+use mesh_doc::{Fault, fault_text};
+use mesh_text::{Memory, Text};
 use std::alloc::Global;
 
 /// How the program ends. The number is its exit status.
@@ -32,7 +36,7 @@ pub enum Spot {
 impl Spot {
     /// The place as refusals print it.
     pub fn text(&self) -> &'static str
-        ensures { result.now ≡ spot_text self.now }
+        ensures { result.now ≡ meaning.spot_text self.now }
     {
         match self {
             Spot::Document => "$",
@@ -50,12 +54,41 @@ pub enum Stop {
     Memory,
 }
 
+impl From<Memory> for Stop {
+    ghost use Rattle.std.specs.Prelude.{◌≡◌};
+    ghost use Rattle.mesh_cli.specs.declared.refusal.Stop.TheVariants.{Memory as OutOfMemory};
+
+    ghost from_gives = { λ _ stop. stop ≡ OutOfMemory };
+
+    fn from(_: Memory) -> Stop {
+        Stop::Memory
+    }
+}
+
 /// The refusal for a reason at a place, or want of memory for its line.
 pub fn refuse(alloc: Global, place: &str, reason: &str) -> Stop
-    ensures { Stops result (refusal place.now reason.now) }
+    ensures { Stops result (meaning.refuses_at place.now reason.now) }
 {
-    match format!(in alloc; "refused: {}: {}\n", place, reason) {
+    match format!(in alloc; "refused: {place}: {reason}\n") {
         Ok(line) => Stop::Refused(Text::from_string(line)),
         Err(_) => Stop::Memory,
     }
+}
+
+/// The refusal for a fault of the input, or want of memory for its line.
+pub fn refuse_fault(alloc: Global, fault: &Fault) -> Stop
+    ensures { Stops result (meaning.refuses_fault fault.now) }
+{
+    match fault_line(alloc, fault) {
+        Ok(line) => Stop::Refused(line),
+        Err(Memory) => Stop::Memory,
+    }
+}
+
+fn fault_line(alloc: Global, fault: &Fault) -> Result<Text, Memory>
+    ensures { IfOk result (λ line. line ≡ meaning.refusal_line (printed.fault_text fault.now)) }
+{
+    let told = fault_text(alloc, fault)?;
+    let line = format!(in alloc; "refused: {told}\n")?;
+    Ok(Text::from_string(line))
 }

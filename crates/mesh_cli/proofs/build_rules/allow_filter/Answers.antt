@@ -1,6 +1,6 @@
 -- The policies' names rise, by what the manifests are known to be.
 use Rattle.std.proofs.Common.{ap, ◌∙◌}
-use Rattle.envoy_types.specs.Rules.{names_rise}
+use Rattle.envoy_types.specs.Rbac.{names_rise}
 use Rattle.mesh_cli.proofs.NamesRise.{policies-rise}
 use Rattle.mesh_cli.proofs.build_rules.allow_filter.Goals as goal
 

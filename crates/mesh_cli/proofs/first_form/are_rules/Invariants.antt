@@ -1,3 +1,4 @@
+-- The answer is that for the rules left.
 use Rattle.std.proofs.Common.{◌≡◌, drop}
 use Rattle.serde_json.specs.View.{items_view}
 use Rattle.mesh_cli.specs.FirstForm as form

@@ -1,3 +1,4 @@
+-- One more policy is put in, until none is left.
 use Rattle.std.proofs.Common.{◌∙◌, ap}
 use Rattle.serde_json.specs.Data.{object}
 use Rattle.serde_json.proofs.Views.{view-Object}

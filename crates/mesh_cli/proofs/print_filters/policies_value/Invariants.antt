@@ -1,3 +1,4 @@
+-- The policies left, put onto the fields, give the object of all.
 use Rattle.std.proofs.Common.{◌≡◌, length}
 use Rattle.serde_json.specs.View.{members_view}
 use Rattle.envoy_types.specs.Written as form

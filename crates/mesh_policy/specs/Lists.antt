@@ -1,11 +1,11 @@
 -- Words on lists: the first answer, the least entry, and a list in order.
-use Rattle.std.specs.Prelude.{ℕ, ◌+◌, nat_eq, nat_lt, Bool, List, [], ◌∷◌, Option, None, if◌then◌else◌}
+use Rattle.std.specs.Prelude.{ℕ, ◌+◌, Bool, List, [], ◌∷◌, Option, None, if◌then◌else◌}
+use Rattle.std.specs.BTreeSet.{insert_key}
 use Rattle.std.specs.Cmp.Lexicographic.{slice_cmp}
-use Rattle.std.specs.List.{dedup, reduce}
+use Rattle.std.specs.List.{fold, reduce}
 use Rattle.std.specs.Option.{option_or}
 use Rattle.std.specs.Ordering.{is_lt, nat_cmp}
 use Rattle.std.specs.declared.cmp.Ordering.{Ordering}
-use Rattle.std.specs.Str.{bytes_eq}
 
 -- the first value that is there
 abbrev pub first_some : {A : Type 0} → List (Option A) → Option A
@@ -31,9 +31,13 @@ abbrev pub in_order : {A : Type 0} → (A → A → Bool) → List A → List A
 in_order before [] = []
 in_order before (x ∷ xs) = put before x (in_order before xs)
 
+-- each entry put in its place, unless one that ties with it is there
+abbrev pub once_in_order : {A : Type 0} → (A → A → Ordering) → List A → List A
+once_in_order cmp xs = fold (insert_key cmp) [] xs
+
 -- each number once, ascending
 abbrev pub ascending : List ℕ → List ℕ
-ascending numbers = dedup nat_eq (in_order nat_lt numbers)
+ascending numbers = once_in_order nat_cmp numbers
 
 -- texts in byte order
 abbrev pub text_cmp : List ℕ → List ℕ → Ordering
@@ -45,7 +49,7 @@ text_before a b = is_lt (text_cmp a b)
 
 -- each text once, in byte order
 abbrev pub distinct_texts : List (List ℕ) → List (List ℕ)
-distinct_texts texts = dedup bytes_eq (in_order text_before texts)
+distinct_texts texts = once_in_order text_cmp texts
 
 -- the sum of a number of each entry
 abbrev pub total : {A : Type 0} → (A → ℕ) → List A → ℕ

@@ -3,7 +3,6 @@ use Rattle.std.specs.Prelude.{◌≡◌, ℕ, ◌==◌, Bool, true, false, not, 
 use Rattle.std.specs.List.{list_all, list_any}
 use Rattle.std.specs.Option.{option_map_or}
 use Rattle.std.specs.Str.{bytes_eq, str_to_ascii_lowercase}
-use Rattle.mesh_text.specs.Bytes.{slash}
 use Rattle.mesh_text.specs.Token.{is_token}
 use Rattle.mesh_policy.specs.declared.case.Case.{Case}
 use Rattle.mesh_policy.specs.declared.case.Tls.{Tls}
@@ -14,6 +13,7 @@ use Rattle.mesh_policy.specs.declared.request.Request.{Request}
 use Rattle.mesh_policy.specs.declared.token_verdict.Claim.{Claim-F}
 use Rattle.mesh_policy.specs.declared.token_verdict.ClaimField.{ClaimField, fold-ClaimField}
 use Rattle.mesh_policy.specs.PeerNames.{peer_of}
+use Rattle.mesh_policy.specs.Template.{begins_with_slash}
 use Rattle.mesh_policy.specs.Token.{token_at}
 
 -- a test of what may be there
@@ -34,10 +34,6 @@ is_not_empty t = not (length t == 0)
 -- the peer's name is well-formed, if there is one
 abbrev pub has_peer_name : Tls → Bool
 has_peer_name tls = if_there (λ name. is_some (peer_of name)) tls.peer
-
--- the path is absolute
-abbrev pub begins_with_slash : List ℕ → Bool
-begins_with_slash path = slice_index path 0 == slash
 
 -- no byte is of A to Z
 abbrev pub is_lower : List ℕ → Bool

@@ -1,5 +1,5 @@
-//! The manifests of a mesh as values, which of them are accepted, and a connection to judge; the meaning of the policies
-//! is in `specs/`, and judges ports of ALLOW policies. String forms, path templates and tokens have their calls here.
+//! The manifests of a mesh as values, and a connection to judge. `specs/` says which manifests are accepted, and what the
+//! policies mean for a connection, whole. String forms, path templates and tokens have their calls here.
 #![tactic(auto)]
 
 mod bundle;

@@ -24,7 +24,7 @@ pub or-if : (b x : Bool) → (b || x) ≡ (if b then true else x)
 or-if true x = refl
 or-if false x = refl
 
-or-swap : (a b c : Bool) → (a || (b || c)) ≡ (b || (a || c))
+pub or-swap : (a b c : Bool) → (a || (b || c)) ≡ (b || (a || c))
 or-swap true true c = refl
 or-swap true false c = refl
 or-swap false true c = refl

@@ -1,11 +1,17 @@
 -- A workload says of each port what the manifests do.
-use Rattle.std.proofs.Common.{◌≡◌, ℕ, ◌==◌, nat_eq, nat_lt, Bool, true, false, cond, ◌&&◌, ◌||◌, List, [], ◌∷◌, ◌++◌, map, find, Option}
+use Rattle.std.proofs.Common.{◌≡◌, ℕ, ◌==◌, Bool, true, false, cond, ◌&&◌, ◌||◌, List, [], ◌∷◌, ◌++◌, map, find, Option}
 use Rattle.std.proofs.Common.{Some, None, unwrap_or, if◌then◌else◌, refl, sym, ◌∙◌, ap}
+use Rattle.std.proofs.Math.Bool.{or-false}
 use Rattle.std.proofs.lemmas.Bool.{or_parts}
 use Rattle.std.proofs.lemmas.Bool.Decides.{Decides-eqb}
 use Rattle.std.proofs.lemmas.List.Folds.{list_any-append}
-use Rattle.std.specs.List.{dedup, dedup_from, list_any}
+use Rattle.std.proofs.lemmas.Map.Lookups.{exact_unsigned}
+use Rattle.std.specs.BTreeSet.{insert_key}
+use Rattle.std.specs.List.{fold, list_any}
 use Rattle.std.specs.Option.{option_and_then, option_map}
+use Rattle.std.specs.Ordering.{match_ordering, nat_cmp}
+use Rattle.std.specs.declared.cmp.Ordering.{Ordering}
+use Rattle.std.specs.declared.cmp.Ordering.TheVariants.{Less, Equal, Greater}
 use lib.Dec.{eqb}
 use Rattle.mesh_policy.specs.declared.bundle.Bundle.{Bundle}
 use Rattle.mesh_policy.specs.declared.peer.Mode.{Mode}
@@ -14,11 +20,11 @@ use Rattle.mesh_policy.specs.declared.peer.PortMode.{PortMode}
 use Rattle.mesh_policy.specs.declared.pod.Pod.{Pod}
 use Rattle.mesh_policy.specs.declared.service.Protocol.{Protocol}
 use Rattle.mesh_policy.specs.declared.service.Protocol.TheVariants.{Http, Tcp}
-use Rattle.mesh_policy.specs.Lists.{ascending, in_order}
+use Rattle.mesh_policy.specs.Lists.{ascending}
 use Rattle.mesh_policy.specs.Modes.{mode_at, mode_from, other_mode, port_mode, workload_policy}
 use Rattle.mesh_policy.specs.Ports.{GivenPort, given, gives_http, is_http, listed, ports_of, protocol_at}
-use Rattle.mesh_policy.specs.Workload.{ListedPort, TellsPorts, WorkloadTellsPorts, listed_of, mode_of, port_of, protocol_of, workload_of}
-use Rattle.mesh_policy.proofs.Listed.{list_any-in_order}
+use Rattle.mesh_policy.specs.Workload.{ListedPort, WorkloadTellsPorts, listed_of, mode_of, port_of, protocol_of, workload_of}
+use Rattle.mesh_policy.proofs.Listed.{or-swap}
 
 -- ---- a number among some, each of them once
 
@@ -26,25 +32,37 @@ or-twice : (a b : Bool) → (a || b) ≡ (a || (a || b))
 or-twice true b = refl
 or-twice false b = refl
 
-any-dedup_from : (p k : ℕ) (ns : List ℕ) → list_any (λ n. n == p) (dedup_from nat_eq k ns) ≡ ((k == p) || list_any (λ n. n == p) ns)
-any-dedup_from p k [] = refl
-any-dedup_from p k (n ∷ ns) = at (eqb n k) refl (any-dedup_from p k ns) (any-dedup_from p n ns) where
-  at : (b : Bool) → eqb n k ≡ b
-      → list_any (λ m. m == p) (dedup_from nat_eq k ns) ≡ ((k == p) || list_any (λ m. m == p) ns)
-      → list_any (λ m. m == p) (dedup_from nat_eq n ns) ≡ ((n == p) || list_any (λ m. m == p) ns)
-      → list_any (λ m. m == p) (cond b (dedup_from nat_eq k ns) (k ∷ dedup_from nat_eq n ns))
-      ≡ ((k == p) || ((n == p) || list_any (λ m. m == p) ns))
-  at true e here there =
-      here ∙ or-twice (k == p) (list_any (λ m. m == p) ns)
-      ∙ ap (λ (m : ℕ). (k == p) || ((m == p) || list_any (λ m. m == p) ns)) (sym ((Decides-eqb n k).0 e))
-  at false e here there = ap (λ (b : Bool). (k == p) || b) there
+or-shift : (a b c : Bool) → ((a || b) || c) ≡ (b || (a || c))
+or-shift true true c = refl
+or-shift true false c = refl
+or-shift false true c = refl
+or-shift false false c = refl
 
-any-dedup : (p : ℕ) (ns : List ℕ) → list_any (λ n. n == p) (dedup nat_eq ns) ≡ list_any (λ n. n == p) ns
-any-dedup p [] = refl
-any-dedup p (n ∷ ns) = any-dedup_from p n ns
+any-insert_key : (p k : ℕ) (ns : List ℕ)
+    → list_any (λ n. n == p) (insert_key nat_cmp ns k) ≡ ((k == p) || list_any (λ n. n == p) ns)
+any-insert_key p k [] = refl
+any-insert_key p k (n ∷ ns) = at (nat_cmp k n) refl (any-insert_key p k ns) where
+  at : (r : Ordering) → nat_cmp k n ≡ r
+      → list_any (λ m. m == p) (insert_key nat_cmp ns k) ≡ ((k == p) || list_any (λ m. m == p) ns)
+      → list_any (λ m. m == p) (match_ordering r (k ∷ n ∷ ns) (n ∷ ns) (n ∷ insert_key nat_cmp ns k))
+      ≡ ((k == p) || ((n == p) || list_any (λ m. m == p) ns))
+  at Less e more = refl
+  at Equal e more =
+      or-twice (n == p) (list_any (λ m. m == p) ns)
+      ∙ ap (λ (m : ℕ). (m == p) || ((n == p) || list_any (λ m. m == p) ns)) (sym (exact_unsigned k n e))
+  at Greater e more =
+      ap (λ (b : Bool). (n == p) || b) more ∙ or-swap (n == p) (k == p) (list_any (λ m. m == p) ns)
+
+any-fold : (p : ℕ) (ns seen : List ℕ)
+    → list_any (λ n. n == p) (fold (insert_key nat_cmp) seen ns) ≡ (list_any (λ n. n == p) seen || list_any (λ n. n == p) ns)
+any-fold p [] seen = sym (or-false (list_any (λ n. n == p) seen))
+any-fold p (n ∷ ns) seen =
+    any-fold p ns (insert_key nat_cmp seen n)
+    ∙ ap (λ (b : Bool). b || list_any (λ m. m == p) ns) (any-insert_key p n seen)
+    ∙ or-shift (n == p) (list_any (λ m. m == p) seen) (list_any (λ m. m == p) ns)
 
 any-ascending : (p : ℕ) (ns : List ℕ) → list_any (λ n. n == p) (ascending ns) ≡ list_any (λ n. n == p) ns
-any-ascending p ns = any-dedup p (in_order nat_lt ns) ∙ list_any-in_order nat_lt (λ n. n == p) ns
+any-ascending p ns = any-fold p ns []
 
 -- ---- the listed port of a number
 

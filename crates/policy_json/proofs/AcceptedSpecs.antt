@@ -1,12 +1,13 @@
 -- What the reader of a `spec` without fault answers is accepted, where the name and the namespace are.
 use Rattle.std.proofs.Common.{◌≡◌, ℕ, false, List, [], refl, sym, ap, ◌∙◌, Option, Some}
 use Rattle.std.proofs.Common.{is_some, IsTrue, All, Result, Ok, Err, IfOk, subst, arith}
-use Rattle.std.proofs.lemmas.Bool.{both_ways, ne_eqb}
+use Rattle.std.proofs.lemmas.Bool.Decides.{Decides-eqb}
 use Rattle.std.proofs.lemmas.List.Elements.{All-nil}
 use Rattle.std.proofs.lemmas.Slice.Eq.{bytes_eq-Decides}
 use Rattle.std.specs.Bool.{⊤}
 use Rattle.std.specs.Option.{ForSome}
 use Rattle.serde_json.specs.Data.{Data}
+use Rattle.mesh_doc.proofs.EachOnce.{map_each_once}
 use Rattle.mesh_doc.proofs.NoFault as no_fault
 use Rattle.mesh_doc.proofs.NoFault.{Ensures, ◌⨾⨾◌, anything, earlier, later, passed, strict_object}
 use Rattle.mesh_doc.specs.Faults.{Check, Reads}
@@ -29,7 +30,6 @@ use Rattle.mesh_text.specs.Token.{is_token}
 use Rattle.policy_json.proofs.AcceptedRules.{entries, rule_ensures}
 use Rattle.policy_json.proofs.AcceptedTokens.{jwt_rule_ensures}
 use Rattle.policy_json.proofs.PortTexts.{port_there, text_of_port}
-use Rattle.policy_json.proofs.UniqueKeys.{KeepsApart, map_pairs}
 use Rattle.policy_json.specs.Authorization.{action_faults, action_in, action_or_allow, authorization_faults}
 use Rattle.policy_json.specs.Authorization.{authorization_in, provider_faults, provider_in}
 use Rattle.policy_json.specs.Labels.{label_faults, label_in, labels_faults, labels_in, selector_faults, selector_in}
@@ -50,13 +50,11 @@ answered e (Err error) d at reads = tt
 
 -- ---- labels
 
-label_members : KeepsApart label_faults label_in (λ a b. same_key a b ≡ false)
-unfolding label_in
-label_members = record { apart = λ key other d e at to differ h k. differ }
-
+-- the value of a key holds it
 pub labels_ensures : Ensures labels_faults labels_in AcceptedLabels
 unfolding label_in labels_faults labels_in
-labels_ensures = map_pairs label_members
+labels_ensures = map_each_once {Of = λ key label. label.key ≡ key} same_key (λ key. record { holds = λ d at h. refl })
+    (λ key other a b p q same. sym p ∙ (bytes_eq-Decides a.key b.key).0 same ∙ q)
 
 pub labels_answered : (r : Result (List Label) DocError) (d : Data) (at : Steps) → Reads r (labels_faults d at) (labels_in d)
     → IfOk r AcceptedLabels
@@ -114,29 +112,20 @@ policy_answered r name namespace d at reads named placed = answered (policy_ensu
 
 -- ---- PeerAuthentication
 
-port_ensures : (key : List ℕ) → Ensures (port_faults key) (port_in key) (λ entry. IsTrue (is_port entry.port))
+-- the port is the number that the key is
+port_told : (key : List ℕ) → Ensures (port_faults key) (port_in key) (λ entry. (port_of key ≡ Some entry.port) × IsTrue (is_port entry.port))
 unfolding port_faults port_in
-port_ensures key = record {
-  holds = λ d at h. (port_there key (port_of key) refl (passed (is_some (port_of key)) _ at
-      (earlier _ _ h))).1;
-}
-
-ports_apart : KeepsApart port_faults port_in (λ a b. same_port a b ≡ false)
-unfolding port_faults port_in
-ports_apart = record {
-  apart = λ key other d e at to differ h k.
-      let p = (port_there key (port_of key) refl (passed (is_some (port_of key)) _ at (earlier _ _ h))).0 in
-      let q = (port_there other (port_of other) refl (passed (is_some (port_of other)) _ to (earlier _ _ k))).0 in
-      ne_eqb _ _ (λ same. both_ways _ differ ((bytes_eq-Decides key other).1 (text_of_port key other _ (p ∙ ap Some same) q)));
-}
+port_told key = record { holds = λ d at h. port_there key (port_of key) refl (passed (is_some (port_of key)) _ at (earlier _ _ h)) }
 
 each_port : Ensures ports_faults ports_in (All (λ entry. IsTrue (is_port entry.port)))
 unfolding ports_faults ports_in
-each_port = no_fault.map_of port_ensures
+each_port = no_fault.map_of (λ key. record { holds = λ d at h. ((port_told key).holds d at h).1 })
 
 each_port_once : Ensures ports_faults ports_in (EachOnce same_port)
 unfolding ports_faults ports_in
-each_port_once = map_pairs ports_apart
+each_port_once = map_each_once {Of = λ key entry. port_of key ≡ Some entry.port} same_port
+    (λ key. record { holds = λ d at h. ((port_told key).holds d at h).0 })
+    (λ key other a b p q same. text_of_port key other b.port (p ∙ ap Some ((Decides-eqb a.port b.port).0 same)) q)
 
 no_ports : EachOnce same_port []
 no_ports = λ i j d below inside. absurd (omega arith)

@@ -1,5 +1,5 @@
 -- The exact shape of joined trees: of one part, and of several.
-use Rattle.std.proofs.Common.{◌≡◌, ◌≢◌, ℕ, List, [], ◌∷◌, length, get_or, refl, arith}
+use Rattle.std.proofs.Common.{◌≡◌, ◌≢◌, List, [], ◌∷◌, length, get_or, refl, arith}
 use Rattle.std.specs.List.{flat_map}
 use Rattle.mesh_tree.specs.declared.tree.Node.TheVariants.{And, Or}
 use Rattle.mesh_tree.specs.declared.tree.Tree.{Tree}

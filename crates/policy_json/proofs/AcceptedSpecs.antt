@@ -117,9 +117,12 @@ port_told : (key : List ℕ) → Ensures (port_faults key) (port_in key) (λ ent
 unfolding port_faults port_in
 port_told key = record { holds = λ d at h. port_there key (port_of key) refl (passed (is_some (port_of key)) _ at (earlier _ _ h)) }
 
+port_ensures : (key : List ℕ) → Ensures (port_faults key) (port_in key) (λ entry. IsTrue (is_port entry.port))
+port_ensures key = record { holds = λ d at h. ((port_told key).holds d at h).1 }
+
 each_port : Ensures ports_faults ports_in (All (λ entry. IsTrue (is_port entry.port)))
 unfolding ports_faults ports_in
-each_port = no_fault.map_of (λ key. record { holds = λ d at h. ((port_told key).holds d at h).1 })
+each_port = no_fault.map_of port_ensures
 
 each_port_once : Ensures ports_faults ports_in (EachOnce same_port)
 unfolding ports_faults ports_in

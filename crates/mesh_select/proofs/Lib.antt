@@ -1,0 +1,10 @@
+pub mod Apart
+pub mod Bounds
+pub mod Found
+pub mod Judged
+pub mod Kept
+pub mod Limits
+pub mod Lookups
+pub mod Order
+pub mod Reasons
+pub mod Steps

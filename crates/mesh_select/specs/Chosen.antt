@@ -1,0 +1,7 @@
+-- Some manifests and one of their Pods.
+use Rattle.mesh_policy.specs.declared.bundle.Bundle.{Bundle}
+use Rattle.mesh_policy.specs.declared.pod.Pod.{Pod}
+
+pub record Chosen : Type 0 where
+  pub bundle : Bundle
+  pub pod : Pod

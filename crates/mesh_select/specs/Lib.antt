@@ -1,0 +1,12 @@
+pub mod Applying
+pub mod Build
+pub mod Chosen
+pub mod Headers
+pub mod Labels
+pub mod Least
+pub mod Modes
+pub mod Ports
+pub mod SelectError
+pub mod Selection
+pub mod Sizes
+pub mod Workload

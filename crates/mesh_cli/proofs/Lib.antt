@@ -2,11 +2,13 @@ mod Builds
 mod Enforced
 mod Fronts
 mod Inputs
+mod Joined
 mod NamesRise
 mod Options
 mod Policies
 mod PortPolicies
 mod Readings
+mod Reasons
 mod Served
 mod Shallow
 mod Spelled

@@ -1,5 +1,5 @@
 -- The policies of at most one AuthorizationPolicy with few rules stand in byte order of their names.
-use Rattle.std.proofs.Common.{◌≡◌, ℕ, ◌+◌, ◌<◌, ◌≤◌, Bool, true, false, cond, List, [], ◌∷◌, ◌++◌, length, codes, filter, nat_le, refl, sym, ◌∙◌, ap, arith, append_assoc}
+use Rattle.std.proofs.Common.{◌≡◌, ℕ, ◌+◌, ◌<◌, ◌≤◌, Bool, true, false, List, [], ◌∷◌, ◌++◌, length, codes, nat_le, refl, sym, ◌∙◌, ap, arith, append_assoc}
 use Rattle.std.specs.List.{list_all}
 use Rattle.std.specs.Fmt.{decimal}
 use Rattle.std.specs.Ordering.{nat_cmp, match_ordering, ordering_then}
@@ -9,10 +9,8 @@ use Rattle.std.specs.Cmp.Lexicographic.{slice_cmp}
 use Rattle.std.proofs.lemmas.Bool.{leb-true, and_parts, and_from}
 use Rattle.std.proofs.lemmas.Fmt.{decimal_digit}
 use Rattle.std.proofs.lemmas.List.{append-nil}
-use Rattle.mesh_policy.specs.declared.pod.Pod.{Pod}
 use Rattle.mesh_policy.specs.declared.policy.AuthorizationPolicy.{AuthorizationPolicy}
 use Rattle.mesh_policy.specs.declared.policy.Rule.{Rule}
-use Rattle.mesh_policy.specs.Applies.{applies}
 use Rattle.envoy_types.specs.Rbac.{is_below, names_rise}
 use Rattle.mesh_cli.specs.BuildRules.{rule_name, rule_policies, policies_of}
 use Rattle.mesh_cli.specs.Buildable.{allows_for_all, are_buildable, are_few, has_few_rules, has_one_operation}
@@ -67,18 +65,15 @@ rules-rise policy k (rule ∷ rules) few =
     let fewer : k + 1 + length rules ≤ 10 = omega arith in
     and_from _ _ (below_all policy k (k + 1) rules next fewer) (rules-rise policy (k + 1) rules fewer)
 
-one-rises : (policy : AuthorizationPolicy) (chosen : Bool) → has_few_rules policy ≡ true
-    → names_rise (policies_of (cond chosen (policy ∷ []) [])) ≡ true
-one-rises policy false h = refl
-one-rises policy true h =
+one-rises : (policy : AuthorizationPolicy) → has_few_rules policy ≡ true → names_rise (policies_of (policy ∷ [])) ≡ true
+one-rises policy h =
     let rules = and_parts (allows_for_all policy) (are_few policy.rules) h in
     let counted = and_parts (nat_le (length policy.rules) 8) (list_all has_one_operation policy.rules) rules.1 in
     let few : length policy.rules ≤ 8 = leb-true (length policy.rules) 8 counted.0 in
     let fits : 0 + length policy.rules ≤ 10 = omega arith in
     ap names_rise (append-nil (rule_policies policy 0 policy.rules)) ∙ rules-rise policy 0 policy.rules fits
 
-pub policies-rise : (pod : Pod) (policies : List AuthorizationPolicy) → are_buildable policies ≡ true
-    → names_rise (policies_of (filter (applies pod) policies)) ≡ true
-policies-rise pod [] h = refl
-policies-rise pod (policy ∷ []) h = one-rises policy (applies pod policy) h
-policies-rise pod (policy ∷ (other ∷ policies)) h = cc
+pub policies-rise : (policies : List AuthorizationPolicy) → are_buildable policies ≡ true → names_rise (policies_of policies) ≡ true
+policies-rise [] h = refl
+policies-rise (policy ∷ []) h = one-rises policy h
+policies-rise (policy ∷ (other ∷ policies)) h = cc

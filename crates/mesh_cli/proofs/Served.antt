@@ -1,11 +1,13 @@
 -- An input that a command answers with a text is not refused, and that text is the one.
 use Rattle.std.proofs.Common.{◌≡◌, ℕ, ◌<◌, ◌≤◌, Bool, true, false, cond, List, length, nat_lt, Option, Some, None, IfSome, refl, sym, subst, ◌∙◌, ap, arith}
 use Rattle.std.proofs.lemmas.Bool.{ltb-true}
+use Rattle.std.specs.Option.{option_map}
 use Rattle.mesh_edge.specs.Source.{KnownSource}
 use Rattle.manifest_json.specs.Document.{bundle_in}
+use Rattle.mesh_policy.specs.Workload.{workload_of}
 use Rattle.mesh_cli.specs.declared.words.Command.{Command}
 use Rattle.mesh_cli.specs.declared.words.Command.TheVariants.{Translate}
-use Rattle.mesh_cli.specs.Answer.{too_long, answer_of, answer_to, answer_unless, answer_with, answer_for, translation, document_of, max_input}
+use Rattle.mesh_cli.specs.Answer.{too_long, answer_of, answer_to, answer_unless, answer_with, answer_for, translation, workload_named, document_of, max_input}
 use Rattle.mesh_cli.specs.Headline.{Accepted}
 use Rattle.mesh_cli.specs.PodName.{PodName}
 use Rattle.mesh_cli.specs.Program.{Answers, IsAccepted, IsAnswered}
@@ -47,20 +49,21 @@ no-refusal words old new given line text command answers asked =
 
 -- manifests that a listener is built of, with the Pod that is named, are answered with a text
 accepted-writes : (name : PodName) (bytes : List ℕ) → length bytes ≤ max_input → (accepted : Accepted name bytes)
-    → answer_of (Translate name) bytes ≡ writes (listener_text (bundle_in accepted.document) accepted.pod)
-unfolding answer_of
+    → answer_of (Translate name) bytes ≡ writes (listener_text (workload_of (bundle_in accepted.document) accepted.pod))
+unfolding answer_of translation
 accepted-writes name bytes fits accepted = at (nat_lt max_input (length bytes)) refl where
   at : (above : Bool) → nat_lt max_input (length bytes) ≡ above
       → cond above too_long (answer_to (Translate name) (document_of bytes))
-      ≡ writes (listener_text (bundle_in accepted.document) accepted.pod)
+      ≡ writes (listener_text (workload_of (bundle_in accepted.document) accepted.pod))
   at true e = let more : max_input < length bytes = ltb-true max_input (length bytes) e in absurd (omega arith)
   at false e = ap (answer_to (Translate name)) accepted.reads
       ∙ ap (λ fault. answer_unless fault (answer_with (Translate name) accepted.document (bundle_in accepted.document))) accepted.faultless
       ∙ ap (translation name (bundle_in accepted.document)) accepted.buildable
-      ∙ ap (answer_for name (bundle_in accepted.document)) accepted.selected
+      ∙ ap (λ reason. answer_for name reason (workload_named name (bundle_in accepted.document))) accepted.selected
+      ∙ ap (λ pod. answer_for name None (option_map (workload_of (bundle_in accepted.document)) pod)) accepted.named
 
 pub accepted-answered : (words : List (List ℕ)) (input : KnownSource) → (asked : IsAccepted words input)
-    → IsAnswered words input (listener_text (bundle_in asked.accepted.document) asked.accepted.pod)
+    → IsAnswered words input (listener_text (workload_of (bundle_in asked.accepted.document) asked.accepted.pod))
 accepted-answered words input asked = record {
   command = Translate asked.name;
   given = asked.given;

@@ -1,16 +1,14 @@
 -- The value that is written of the listener that is built is nested little, and holds no float.
-use Rattle.std.proofs.Common.{◌≡◌, ℕ, zero, suc, ◌+◌, ◌≤◌, max, Bool, true, false, cond, ◌&&◌, ◌||◌, List, [], ◌∷◌, ◌++◌, map, filter, Some, refl, ◌∙◌, ap, arith}
+use Rattle.std.proofs.Common.{◌≡◌, ℕ, zero, suc, ◌+◌, ◌≤◌, max, Bool, true, false, ◌&&◌, ◌||◌, List, [], ◌∷◌, ◌++◌, map, Some, refl, ◌∙◌, ap, arith}
 use Rattle.std.proofs.lemmas.Bool.{and_parts, and_from, or_from}
-use Rattle.std.specs.List.{list_any, list_all}
+use Rattle.std.specs.List.{list_all}
 use Rattle.std.proofs.lemmas.List.{append-nil}
 use Rattle.serde_json.specs.Data.{Data, null, boolean, number, string, array, object, Items, no_items, item, Members, no_members, member, depth, items_depth, members_depth}
 use Rattle.serde_json.specs.Written.{has_float, members_have_float}
-use Rattle.mesh_policy.specs.declared.bundle.Bundle.{Bundle}
-use Rattle.mesh_policy.specs.declared.pod.Pod.{Pod}
 use Rattle.mesh_policy.specs.declared.policy.AuthorizationPolicy.{AuthorizationPolicy}
 use Rattle.mesh_policy.specs.declared.policy.OperationSpec.{OperationSpec}
 use Rattle.mesh_policy.specs.declared.policy.Rule.{Rule}
-use Rattle.mesh_policy.specs.Applies.{applies}
+use Rattle.mesh_policy.specs.Workload.{Workload}
 use Rattle.envoy_types.specs.declared.listener.Listener.{Listener}
 use Rattle.envoy_types.specs.declared.listener.NetworkFilter.TheVariants as network
 use Rattle.envoy_types.specs.declared.rbac.PermissionLeaf.TheVariants.{DestinationPort}
@@ -20,9 +18,8 @@ use Rattle.envoy_types.specs.declared.rbac.RbacPolicy.{RbacPolicy}
 use Rattle.envoy_types.specs.Written as form
 use Rattle.envoy_types.specs.Written.{written}
 use Rattle.mesh_cli.specs.Build.{listener_with, built}
-use Rattle.mesh_cli.specs.BuildRules.{permissions_of, rule_name, rule_policies, policies_of, allow_filter}
-use Rattle.mesh_cli.specs.Buildable.{is_buildable, are_buildable, has_few_rules, has_one_operation, has_one_port, is_of_one_port, is_sole}
-use Rattle.mesh_cli.proofs.Builds.{policies-of}
+use Rattle.mesh_cli.specs.BuildRules.{filters_of, permissions_of, rule_name, rule_policies, policies_of}
+use Rattle.mesh_cli.specs.Buildable.{are_buildable, has_one_operation, has_one_port, is_of_one_port, is_sole}
 use Rattle.mesh_cli.proofs.NamesRise.{policies-rise}
 use Rattle.mesh_cli.proofs.Spelled.{direct, in-order}
 
@@ -106,31 +103,21 @@ rules-whole policy k (rule ∷ rules) h =
     or_from _ _ (sole-whole (rule_name policy k) rule.operations (and_parts _ _ (and_parts _ _ h).0).1)
     (rules-whole policy (k + 1) rules (and_parts _ _ h).1)
 
-chosen-shallow : (policy : AuthorizationPolicy) (chosen : Bool) → has_few_rules policy ≡ true
-    → members_shallow 119 (direct (policies_of (cond chosen (policy ∷ []) []))) ≡ true
-chosen-shallow policy false h = refl
-chosen-shallow policy true h =
+policies-shallow : (policies : List AuthorizationPolicy) → are_buildable policies ≡ true
+    → members_shallow 119 (direct (policies_of policies)) ≡ true
+policies-shallow [] h = refl
+policies-shallow (policy ∷ []) h =
     ap (λ ps. members_shallow 119 (direct ps)) (append-nil (rule_policies policy 0 policy.rules))
     ∙ rules-shallow policy 0 policy.rules (and_parts _ _ (and_parts _ _ h).1).1
+policies-shallow (policy ∷ (other ∷ policies)) h = cc
 
-chosen-whole : (policy : AuthorizationPolicy) (chosen : Bool) → has_few_rules policy ≡ true
-    → members_have_float (direct (policies_of (cond chosen (policy ∷ []) []))) ≡ false
-chosen-whole policy false h = refl
-chosen-whole policy true h =
+policies-whole : (policies : List AuthorizationPolicy) → are_buildable policies ≡ true
+    → members_have_float (direct (policies_of policies)) ≡ false
+policies-whole [] h = refl
+policies-whole (policy ∷ []) h =
     ap (λ ps. members_have_float (direct ps)) (append-nil (rule_policies policy 0 policy.rules))
     ∙ rules-whole policy 0 policy.rules (and_parts _ _ (and_parts _ _ h).1).1
-
-policies-shallow : (pod : Pod) (policies : List AuthorizationPolicy) → are_buildable policies ≡ true
-    → members_shallow 119 (direct (policies_of (filter (applies pod) policies))) ≡ true
-policies-shallow pod [] h = refl
-policies-shallow pod (policy ∷ []) h = chosen-shallow policy (applies pod policy) h
-policies-shallow pod (policy ∷ (other ∷ policies)) h = cc
-
-policies-whole : (pod : Pod) (policies : List AuthorizationPolicy) → are_buildable policies ≡ true
-    → members_have_float (direct (policies_of (filter (applies pod) policies))) ≡ false
-policies-whole pod [] h = refl
-policies-whole pod (policy ∷ []) h = chosen-whole policy (applies pod policy) h
-policies-whole pod (policy ∷ (other ∷ policies)) h = cc
+policies-whole (policy ∷ (other ∷ policies)) h = cc
 
 -- ---- the listener
 
@@ -146,37 +133,24 @@ listener-whole : (policies : List RbacPolicy) → members_have_float (form.polic
     → has_float (written (listener_of policies)) ≡ false
 listener-whole policies h = rw h refl
 
--- the policies that apply, in the order of the object
-applying-shallow : (bundle : Bundle) (pod : Pod) → is_buildable bundle ≡ true
-    → members_shallow 119 (form.policies (policies_of (filter (applies pod) bundle.authorization))) ≡ true
-applying-shallow bundle pod h =
-    let few = policies-of bundle h in
-    ap (members_shallow 119)
-    (in-order (policies_of (filter (applies pod) bundle.authorization)) (policies-rise pod bundle.authorization few))
-    ∙ policies-shallow pod bundle.authorization few
+filters-shallow : (policies : List AuthorizationPolicy) → are_buildable policies ≡ true
+    → is_shallow 127 (written (listener_with (filters_of policies))) ≡ true
+filters-shallow [] h = refl
+filters-shallow (policy ∷ policies) h =
+    listener-shallow (policies_of (policy ∷ policies))
+    (ap (members_shallow 119) (in-order (policies_of (policy ∷ policies)) (policies-rise (policy ∷ policies) h)) ∙ policies-shallow (policy ∷ policies) h)
 
-applying-whole : (bundle : Bundle) (pod : Pod) → is_buildable bundle ≡ true
-    → members_have_float (form.policies (policies_of (filter (applies pod) bundle.authorization))) ≡ false
-applying-whole bundle pod h =
-    let few = policies-of bundle h in
-    ap members_have_float
-    (in-order (policies_of (filter (applies pod) bundle.authorization)) (policies-rise pod bundle.authorization few))
-    ∙ policies-whole pod bundle.authorization few
+filters-whole : (policies : List AuthorizationPolicy) → are_buildable policies ≡ true
+    → has_float (written (listener_with (filters_of policies))) ≡ false
+filters-whole [] h = refl
+filters-whole (policy ∷ policies) h =
+    listener-whole (policies_of (policy ∷ policies))
+    (ap members_have_float (in-order (policies_of (policy ∷ policies)) (policies-rise (policy ∷ policies) h)) ∙ policies-whole (policy ∷ policies) h)
 
-pub shallow : (bundle : Bundle) (pod : Pod) → is_buildable bundle ≡ true → depth (written (built bundle pod)) ≤ 127
+pub shallow : (workload : Workload) → are_buildable workload.allow ≡ true → depth (written (built workload)) ≤ 127
 unfolding built
-shallow bundle pod h = depth-within 127 (written (built bundle pod)) (at (list_any (applies pod) bundle.authorization)) where
-  at : (some_applies : Bool)
-      → let filters = cond some_applies (allow_filter (filter (applies pod) bundle.authorization) ∷ []) [] in
-      is_shallow 127 (written (listener_with filters)) ≡ true
-  at true = listener-shallow (policies_of (filter (applies pod) bundle.authorization)) (applying-shallow bundle pod h)
-  at false = refl
+shallow workload h = depth-within 127 (written (built workload)) (filters-shallow workload.allow h)
 
-pub whole : (bundle : Bundle) (pod : Pod) → is_buildable bundle ≡ true → has_float (written (built bundle pod)) ≡ false
+pub whole : (workload : Workload) → are_buildable workload.allow ≡ true → has_float (written (built workload)) ≡ false
 unfolding built
-whole bundle pod h = at (list_any (applies pod) bundle.authorization) where
-  at : (some_applies : Bool)
-      → let filters = cond some_applies (allow_filter (filter (applies pod) bundle.authorization) ∷ []) [] in
-      has_float (written (listener_with filters)) ≡ false
-  at true = listener-whole (policies_of (filter (applies pod) bundle.authorization)) (applying-whole bundle pod h)
-  at false = refl
+whole workload h = filters-whole workload.allow h

@@ -1,7 +1,7 @@
 -- The value that is written of the listener that is built spells that listener.
-use Rattle.std.proofs.Common.{◌≡◌, ℕ, ◌+◌, Bool, true, false, cond, List, [], ◌∷◌, ◌++◌, map, filter, Some, refl, sym, ◌∙◌, ap}
+use Rattle.std.proofs.Common.{◌≡◌, ℕ, ◌+◌, Bool, true, false, List, [], ◌∷◌, ◌++◌, map, Some, refl, sym, ◌∙◌, ap}
 use Rattle.std.proofs.lemmas.Bool.{and_parts}
-use Rattle.std.specs.List.{list_any, list_all}
+use Rattle.std.specs.List.{list_all}
 use Rattle.std.specs.Ordering.{nat_cmp, match_ordering}
 use Rattle.std.specs.declared.cmp.Ordering.{Ordering}
 use Rattle.std.specs.declared.cmp.Ordering.TheVariants.{Less, Equal, Greater}
@@ -9,12 +9,10 @@ use Rattle.std.specs.Cmp.Lexicographic.{slice_cmp}
 use Rattle.std.proofs.Math.Dec.{leb-zero}
 use Rattle.std.proofs.lemmas.List.{append-nil}
 use Rattle.serde_json.specs.Data.{Data, object, Members, no_members, member, put}
-use Rattle.mesh_policy.specs.declared.bundle.Bundle.{Bundle}
-use Rattle.mesh_policy.specs.declared.pod.Pod.{Pod}
 use Rattle.mesh_policy.specs.declared.policy.AuthorizationPolicy.{AuthorizationPolicy}
 use Rattle.mesh_policy.specs.declared.policy.OperationSpec.{OperationSpec}
 use Rattle.mesh_policy.specs.declared.policy.Rule.{Rule}
-use Rattle.mesh_policy.specs.Applies.{applies}
+use Rattle.mesh_policy.specs.Workload.{Workload}
 use Rattle.envoy_types.specs.declared.listener.NetworkFilter.TheVariants as network
 use Rattle.envoy_types.specs.declared.rbac.PermissionLeaf.TheVariants.{DestinationPort}
 use Rattle.envoy_types.specs.declared.rbac.Principal.TheVariants.{Any}
@@ -25,9 +23,8 @@ use Rattle.envoy_types.specs.Spells.{policy_in, named_policies, policies_in, lis
 use Rattle.envoy_types.specs.Written as form
 use Rattle.envoy_types.specs.Written.{written}
 use Rattle.mesh_cli.specs.Build.{listener_with, built}
-use Rattle.mesh_cli.specs.BuildRules.{permissions_of, rule_name, rule_policies, policies_of, allow_filter}
-use Rattle.mesh_cli.specs.Buildable.{is_buildable, are_buildable, has_few_rules, has_one_operation, has_one_port, is_of_one_port, is_sole}
-use Rattle.mesh_cli.proofs.Builds.{policies-of}
+use Rattle.mesh_cli.specs.BuildRules.{filters_of, permissions_of, rule_name, rule_policies, policies_of}
+use Rattle.mesh_cli.specs.Buildable.{are_buildable, has_one_operation, has_one_port, is_of_one_port, is_sole}
 use Rattle.mesh_cli.proofs.NamesRise.{policies-rise}
 
 -- ---- policies whose names rise stand in the object as they do in the list
@@ -76,19 +73,14 @@ rules-back policy k (rule ∷ rules) h =
     let others : list_all has_one_operation rules ≡ true = (and_parts _ _ h).1 in
     rw (rule-back (rule_name policy k) rule.operations sole, rules-back policy (k + 1) rules others) refl
 
-one-back : (policy : AuthorizationPolicy) (chosen : Bool) → has_few_rules policy ≡ true
-    → named_policies (direct (policies_of (cond chosen (policy ∷ []) []))) ≡ Some (policies_of (cond chosen (policy ∷ []) []))
-one-back policy false h = refl
-one-back policy true h =
+policies-back : (policies : List AuthorizationPolicy) → are_buildable policies ≡ true
+    → named_policies (direct (policies_of policies)) ≡ Some (policies_of policies)
+policies-back [] h = refl
+policies-back (policy ∷ []) h =
     ap (λ policies. named_policies (direct policies)) (append-nil (rule_policies policy 0 policy.rules))
     ∙ rules-back policy 0 policy.rules (and_parts _ _ (and_parts _ _ h).1).1
     ∙ ap (λ policies. Some policies) (sym (append-nil (rule_policies policy 0 policy.rules)))
-
-policies-back : (pod : Pod) (policies : List AuthorizationPolicy) → are_buildable policies ≡ true
-    → named_policies (direct (policies_of (filter (applies pod) policies))) ≡ Some (policies_of (filter (applies pod) policies))
-policies-back pod [] h = refl
-policies-back pod (policy ∷ []) h = one-back policy (applies pod policy) h
-policies-back pod (policy ∷ (other ∷ policies)) h = cc
+policies-back (policy ∷ (other ∷ policies)) h = cc
 
 object-back : (policies : List RbacPolicy) → names_rise policies ≡ true → named_policies (direct policies) ≡ Some policies
     → policies_in (object (form.policies policies)) ≡ Some policies
@@ -104,16 +96,12 @@ with-filter policies back = rw back refl
 without-filter : listener_in (written (listener_with [])) ≡ Some (listener_with [])
 without-filter = refl
 
-pub spelled : (bundle : Bundle) (pod : Pod) → is_buildable bundle ≡ true
-    → listener_in (written (built bundle pod)) ≡ Some (built bundle pod)
-unfolding built
-spelled bundle pod h = at (list_any (applies pod) bundle.authorization) where
-  back : policies_in (object (form.policies (policies_of (filter (applies pod) bundle.authorization))))
-      ≡ Some (policies_of (filter (applies pod) bundle.authorization))
-  back = object-back _ (policies-rise pod bundle.authorization (policies-of bundle h))
-      (policies-back pod bundle.authorization (policies-of bundle h))
+filters-spelled : (policies : List AuthorizationPolicy) → are_buildable policies ≡ true
+    → listener_in (written (listener_with (filters_of policies))) ≡ Some (listener_with (filters_of policies))
+filters-spelled [] h = without-filter
+filters-spelled (policy ∷ policies) h =
+    with-filter (policies_of (policy ∷ policies)) (object-back (policies_of (policy ∷ policies)) (policies-rise (policy ∷ policies) h) (policies-back (policy ∷ policies) h))
 
-  at : (some_applies : Bool) → let filters = cond some_applies (allow_filter (filter (applies pod) bundle.authorization) ∷ []) [] in
-      listener_in (written (listener_with filters)) ≡ Some (listener_with filters)
-  at true = with-filter (policies_of (filter (applies pod) bundle.authorization)) back
-  at false = without-filter
+pub spelled : (workload : Workload) → are_buildable workload.allow ≡ true → listener_in (written (built workload)) ≡ Some (built workload)
+unfolding built
+spelled workload h = filters-spelled workload.allow h

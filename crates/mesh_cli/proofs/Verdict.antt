@@ -14,6 +14,7 @@ use Rattle.mesh_policy.specs.Applies.{applies}
 use Rattle.mesh_policy.specs.Connection.{is_mesh_name, offers_mesh_name}
 use Rattle.mesh_policy.specs.MeshVerdict.{is_allowed, mesh_verdict}
 use Rattle.mesh_policy.specs.Rules as mesh
+use Rattle.mesh_policy.specs.Workload.{workload_of}
 use Rattle.envoy_types.specs.declared.listener.FilterChain.{FilterChain}
 use Rattle.envoy_types.specs.declared.listener.NetworkFilter.{NetworkFilter}
 use Rattle.envoy_types.specs.declared.rbac.PermissionLeaf.TheVariants.{DestinationPort}
@@ -24,7 +25,7 @@ use Rattle.envoy_types.specs.Prune.{agreed_name, fits_name}
 use Rattle.mesh_cli.specs.Build.{mutual_chain, opaque_chain, built}
 use Rattle.mesh_cli.specs.BuildRules.{rule_policies, policies_of, permissions_of, allow_filter, filters_of}
 use Rattle.mesh_cli.specs.Buildable.{is_buildable, are_buildable, has_few_rules, has_one_operation, is_sole, is_of_one_port, has_one_port}
-use Rattle.mesh_cli.proofs.Builds.{policies-of}
+use Rattle.mesh_cli.proofs.Builds.{allow-of, policies-of}
 
 -- ---- what a policy of the filter holds for
 
@@ -69,18 +70,6 @@ policies-agree c (policy ∷ policies) h =
     (rules-agree c policy 0 policy.rules (and_parts _ _ (and_parts _ _ (and_parts _ _ h).0).1).1)
     ∙ ap (λ b. mesh.policy_holds c policy || b) (policies-agree c policies (and_parts _ _ h).1)
 
-list_all-filter : {A : Type 0} (test keep : A → Bool) (xs : List A) → list_all test xs ≡ true → list_all test (filter keep xs) ≡ true
-list_all-filter test keep [] h = refl
-list_all-filter test keep (x ∷ xs) h = at (keep x) (list_all-filter test keep xs (and_parts _ _ h).1) where
-  at : (b : Bool) → list_all test (filter keep xs) ≡ true → list_all test (cond b (x ∷ filter keep xs) (filter keep xs)) ≡ true
-  at true inner = and_from _ _ (and_parts _ _ h).0 inner
-  at false inner = inner
-
-few-all : (policies : List AuthorizationPolicy) → are_buildable policies ≡ true → list_all has_few_rules policies ≡ true
-few-all [] h = refl
-few-all (policy ∷ []) h = and_from _ _ h refl
-few-all (policy ∷ (other ∷ policies)) h = cc
-
 -- ---- what the filters decide
 
 decided : Bool → Run
@@ -99,17 +88,22 @@ allow-decides c policies h =
     one_filter (is_some (find (envoy.policy_holds c) (policies_of policies)))
     ∙ ap decided (is_some-find (envoy.policy_holds c) (policies_of policies) ∙ policies-agree c policies h)
 
-filters-decide : (b : Bundle) (pod : Pod) (c : Case) → is_buildable b ≡ true → run_filters c (filters_of b pod) false
-    ≡ decided (is_allowed b pod c)
+chosen-decide : (pod : Pod) (c : Case) (policies : List AuthorizationPolicy) → are_buildable policies ≡ true
+    → run_filters c (filters_of (filter (applies pod) policies)) false
+    ≡ decided (if list_any (applies pod) policies then list_any (mesh.policy_holds c) (filter (applies pod) policies) else true)
 unfolding decided
-filters-decide b pod c h = at (list_any (applies pod) b.authorization) where
-  few : list_all has_few_rules (filter (applies pod) b.authorization) ≡ true
-  few = list_all-filter has_few_rules (applies pod) b.authorization (few-all b.authorization (policies-of b h))
-
-  at : (some_applies : Bool) → run_filters c (if some_applies then allow_filter (filter (applies pod) b.authorization) ∷ [] else []) false
-      ≡ decided (if some_applies then list_any (mesh.policy_holds c) (filter (applies pod) b.authorization) else true)
-  at true = allow-decides c (filter (applies pod) b.authorization) few
+chosen-decide pod c [] h = refl
+chosen-decide pod c (policy ∷ []) h = at (applies pod policy) where
+  at : (chosen : Bool) → run_filters c (filters_of (cond chosen (policy ∷ []) [])) false
+      ≡ decided (if chosen || false then list_any (mesh.policy_holds c) (cond chosen (policy ∷ []) []) else true)
+  at true = allow-decides c (policy ∷ []) (and_from _ _ h refl)
   at false = refl
+chosen-decide pod c (policy ∷ (other ∷ policies)) h = cc
+
+filters-decide : (b : Bundle) (pod : Pod) (c : Case) → is_buildable b ≡ true
+    → run_filters c (filters_of (workload_of b pod).allow) false ≡ decided (is_allowed b pod c)
+filters-decide b pod c h =
+    ap (λ policies. run_filters c (filters_of policies) false) (allow-of b pod h) ∙ chosen-decide pod c b.authorization (policies-of b h)
 
 -- ---- which chain a connection goes to
 
@@ -145,24 +139,24 @@ with_tls c tls = record {
 }
 
 plain-agrees : (b : Bundle) (pod : Pod) (c : Case) → is_buildable b ≡ true
-    → envoy_verdict (built b pod) (with_tls c None) ≡ mesh_verdict b pod (with_tls c None)
+    → envoy_verdict (built (workload_of b pod)) (with_tls c None) ≡ mesh_verdict b pod (with_tls c None)
 unfolding built decided
 plain-agrees b pod c h = ap tcp_verdict (filters-decide b pod (with_tls c None) h)
 
 tls_cases : (b : Bundle) (pod : Pod) (c : Case) (tls : Tls) → is_buildable b ≡ true → (offers has_peer : Bool)
     → offers_mesh_name tls ≡ offers → is_some tls.peer ≡ has_peer
-    → envoy_verdict (built b pod) (with_tls c (Some tls)) ≡ mesh_verdict b pod (with_tls c (Some tls))
+    → envoy_verdict (built (workload_of b pod)) (with_tls c (Some tls)) ≡ mesh_verdict b pod (with_tls c (Some tls))
 unfolding built decided encrypted
 tls_cases b pod c tls h true true e p =
-    ap (verdict_by (with_tls c (Some tls))) (chain-for (filters_of b pod) tls.alpn)
+    ap (verdict_by (with_tls c (Some tls))) (chain-for (filters_of (workload_of b pod).allow) tls.alpn)
     ∙ rw (e, p) (ap tcp_verdict (filters-decide b pod (with_tls c (Some tls)) h))
-tls_cases b pod c tls h true false e p = ap (verdict_by (with_tls c (Some tls))) (chain-for (filters_of b pod) tls.alpn) ∙ rw (e, p) refl
+tls_cases b pod c tls h true false e p = ap (verdict_by (with_tls c (Some tls))) (chain-for (filters_of (workload_of b pod).allow) tls.alpn) ∙ rw (e, p) refl
 tls_cases b pod c tls h false has_peer e p =
-    ap (verdict_by (with_tls c (Some tls))) (chain-for (filters_of b pod) tls.alpn)
+    ap (verdict_by (with_tls c (Some tls))) (chain-for (filters_of (workload_of b pod).allow) tls.alpn)
     ∙ rw e (ap tcp_verdict (filters-decide b pod (with_tls c (Some tls)) h))
 
-pub agree : (b : Bundle) (pod : Pod) → is_buildable b ≡ true → (c : Case) → envoy_verdict (built b pod) c ≡ mesh_verdict b pod c
+pub agree : (b : Bundle) (pod : Pod) → is_buildable b ≡ true → (c : Case) → envoy_verdict (built (workload_of b pod)) c ≡ mesh_verdict b pod c
 agree b pod h c = at c.tls where
-  at : (tls : Option Tls) → envoy_verdict (built b pod) (with_tls c tls) ≡ mesh_verdict b pod (with_tls c tls)
+  at : (tls : Option Tls) → envoy_verdict (built (workload_of b pod)) (with_tls c tls) ≡ mesh_verdict b pod (with_tls c tls)
   at None = plain-agrees b pod c h
   at (Some tls) = tls_cases b pod c tls h (offers_mesh_name tls) (is_some tls.peer) refl refl

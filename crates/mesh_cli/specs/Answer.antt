@@ -1,20 +1,23 @@
 -- What a command answers to the bytes of its input: the first refusal that holds, or its text.
-use Rattle.std.specs.Prelude.{ℕ, List, [], length, find, Option, Some, None, codes, nat_lt, if◌then◌else◌}
+use Rattle.std.specs.Prelude.{ℕ, List, [], length, Option, Some, None, codes, nat_lt, if◌then◌else◌}
+use Rattle.std.specs.Option.{option_map}
 use Rattle.std.specs.Str.{is_utf8}
 use Rattle.serde_json.specs.Data.{Data}
 use Rattle.serde_json.specs.Read.{read}
 use Rattle.mesh_doc.specs.Faults.{first}
 use Rattle.mesh_doc.specs.declared.fault.Fault.{Fault}
 use Rattle.mesh_policy.specs.declared.bundle.Bundle.{Bundle}
-use Rattle.mesh_policy.specs.declared.pod.Pod.{Pod}
+use Rattle.mesh_policy.specs.SelectFault.{SelectFault, no_workload, pod_named, select_fault}
+use Rattle.mesh_policy.specs.Workload.{Workload, workload_of}
 use Rattle.manifest_json.specs.Document.{bundle_faults, bundle_in}
 use Rattle.mesh_cli.specs.declared.refusal.Spot.{Spot}
 use Rattle.mesh_cli.specs.declared.words.Command.{Command}
 use Rattle.mesh_cli.specs.declared.words.Command.TheVariants.{Translate, Check}
 use Rattle.mesh_cli.specs.Counts.{counts_text}
 use Rattle.mesh_cli.specs.FirstForm.{not_yet}
-use Rattle.mesh_cli.specs.PodName.{PodName, is_named, pod_text}
+use Rattle.mesh_cli.specs.PodName.{PodName}
 use Rattle.mesh_cli.specs.Refusal.{Answer, writes, refuses_at, refuses_fault, spot_text, whole_input}
+use Rattle.mesh_cli.specs.Selection.{refuses_pod}
 use Rattle.mesh_cli.specs.Text.{listener_text}
 
 -- the most bytes of an input
@@ -25,19 +28,23 @@ max_input = 8388608
 unfoldable pub document_of : List ℕ → Option Data
 document_of bytes = if is_utf8 bytes then read bytes else None
 
-abbrev pub pod_named : PodName → Bundle → Option Pod
-pod_named name bundle = find (is_named name) bundle.pods
+-- the reason that selection has, or the listener of the workload; without a Pod there is a reason
+abbrev pub answer_for : PodName → Option SelectFault → Option Workload → Answer
+answer_for name (Some reason) workload = refuses_pod name reason
+answer_for name None None = refuses_pod name no_workload
+answer_for name None (Some workload) = writes (listener_text workload)
 
-abbrev pub no_workload : PodName → Answer
-no_workload name = refuses_at (pod_text name) (codes "NoWorkload")
+-- the workload of the Pod of that name
+abbrev pub workload_named : PodName → Bundle → Option Workload
+workload_named name bundle = option_map (workload_of bundle) (pod_named name.namespace name.name bundle)
 
-abbrev pub answer_for : PodName → Bundle → Option Pod → Answer
-answer_for name bundle None = no_workload name
-answer_for name bundle (Some pod) = writes (listener_text bundle pod)
+abbrev pub selection : PodName → Bundle → Answer
+selection name bundle = answer_for name (select_fault bundle name.namespace name.name) (workload_named name bundle)
 
-abbrev pub translation : PodName → Bundle → Option Spot → Answer
+-- NotYet, or what selection answers
+unfoldable pub translation : PodName → Bundle → Option Spot → Answer
 translation name bundle (Some spot) = refuses_at (spot_text spot) (codes "NotYet")
-translation name bundle None = answer_for name bundle (pod_named name bundle)
+translation name bundle None = selection name bundle
 
 -- of manifests without fault
 abbrev pub answer_with : Command → Data → Bundle → Answer

@@ -1,9 +1,8 @@
--- The listener that enforces the policies of a Pod: three chains for the ports that no chain names, in PERMISSIVE mode,
--- each with the filter of the policies that apply.
+-- The listener that enforces the policies of a workload: three chains for the ports that no chain names, in PERMISSIVE mode,
+-- each with the filter of the ALLOW policies.
 use Rattle.std.specs.Prelude.{ℕ, Bool, true, false, List, [], ◌∷◌, Some, None, codes}
-use Rattle.mesh_policy.specs.declared.bundle.Bundle.{Bundle}
-use Rattle.mesh_policy.specs.declared.pod.Pod.{Pod}
 use Rattle.mesh_policy.specs.Connection.{mesh_names}
+use Rattle.mesh_policy.specs.Workload.{Workload}
 use Rattle.envoy_types.specs.declared.listener.ChainBody.TheVariants.{Tcp}
 use Rattle.envoy_types.specs.declared.listener.ChainMatch.{ChainMatch}
 use Rattle.envoy_types.specs.declared.listener.FilterChain.{FilterChain}
@@ -54,6 +53,6 @@ abbrev pub listener_with : List NetworkFilter → Listener
 listener_with filters =
     record { name = codes "virtualInbound"; address = codes "0.0.0.0"; port = 15006; chains = chains_with filters }
 
--- the listener that enforces the policies that apply to the Pod
-unfoldable pub built : Bundle → Pod → Listener
-built bundle pod = listener_with (filters_of bundle pod)
+-- the listener that enforces the policies of a workload
+unfoldable pub built : Workload → Listener
+built workload = listener_with (filters_of workload.allow)

@@ -1,12 +1,8 @@
--- The filter of the policies that apply to a Pod.
-use Rattle.std.specs.Prelude.{ℕ, ◌+◌, List, [], ◌∷◌, ◌++◌, map, Some, codes, decimal, if◌then◌else◌}
-use Rattle.std.specs.List.{list_any}
-use Rattle.mesh_policy.specs.declared.bundle.Bundle.{Bundle}
-use Rattle.mesh_policy.specs.declared.pod.Pod.{Pod}
+-- The filter of the ALLOW policies of a workload.
+use Rattle.std.specs.Prelude.{ℕ, ◌+◌, List, [], ◌∷◌, ◌++◌, map, Some, codes, decimal}
 use Rattle.mesh_policy.specs.declared.policy.AuthorizationPolicy.{AuthorizationPolicy}
 use Rattle.mesh_policy.specs.declared.policy.OperationSpec.{OperationSpec}
 use Rattle.mesh_policy.specs.declared.policy.Rule.{Rule}
-use Rattle.mesh_policy.specs.Applies.{applies, applying}
 use Rattle.envoy_types.specs.declared.listener.NetworkFilter.{NetworkFilter}
 use Rattle.envoy_types.specs.declared.listener.NetworkFilter.TheVariants as filter
 use Rattle.envoy_types.specs.declared.rbac.PermissionLeaf.{PermissionLeaf}
@@ -41,7 +37,7 @@ policies_of (policy ∷ policies) = rule_policies policy 0 policy.rules ++ polic
 abbrev pub allow_filter : List AuthorizationPolicy → NetworkFilter
 allow_filter policies = filter.Rbac (record { rules = Some (record { action = action.Allow; policies = policies_of policies }) })
 
--- that of the policies that apply, and no filter where none does
-abbrev pub filters_of : Bundle → Pod → List NetworkFilter
-filters_of bundle pod =
-    if list_any (applies pod) bundle.authorization then allow_filter (applying bundle pod) ∷ [] else []
+-- that of the policies, and no filter where there is none
+abbrev pub filters_of : List AuthorizationPolicy → List NetworkFilter
+filters_of [] = []
+filters_of (policy ∷ policies) = allow_filter (policy ∷ policies) ∷ []

@@ -1,5 +1,5 @@
 -- Which manifests a listener is built for so far.
-use Rattle.std.specs.Prelude.{ℕ, ◌==◌, Bool, true, false, ◌&&◌, List, [], ◌∷◌, length, nat_le}
+use Rattle.std.specs.Prelude.{◌≡◌, ℕ, ◌==◌, Bool, true, false, ◌&&◌, IsTrue, List, [], ◌∷◌, length, nat_le}
 use Rattle.std.specs.List.{list_all}
 use Rattle.std.specs.Str.{bytes_eq}
 use Rattle.mesh_policy.specs.declared.bundle.Bundle.{Bundle}
@@ -7,8 +7,10 @@ use Rattle.mesh_policy.specs.declared.policy.Action.{Action}
 use Rattle.mesh_policy.specs.declared.policy.Action.TheVariants as action
 use Rattle.mesh_policy.specs.declared.policy.AuthorizationPolicy.{AuthorizationPolicy}
 use Rattle.mesh_policy.specs.declared.policy.OperationSpec.{OperationSpec}
+use Rattle.mesh_policy.specs.declared.pod.Pod.{Pod}
 use Rattle.mesh_policy.specs.declared.policy.Rule.{Rule}
 use Rattle.mesh_policy.specs.Applies.{root_namespace}
+use Rattle.mesh_policy.specs.Workload.{Workload, workload_of}
 
 -- a list of one entry, which passes the test
 abbrev pub is_sole : {A : Type 0} → (A → Bool) → List A → Bool
@@ -67,3 +69,10 @@ is_of_authorization bundle =
 
 abbrev pub is_buildable : Bundle → Bool
 is_buildable bundle = is_of_authorization bundle && are_buildable bundle.authorization
+
+-- the workload of a Pod among such manifests
+pub record IsBuildable (workload : Workload) : Type 0 where
+  pub bundle : Bundle
+  pub pod : Pod
+  pub manifests : IsTrue (is_buildable bundle)
+  pub is : workload ≡ workload_of bundle pod

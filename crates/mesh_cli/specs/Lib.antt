@@ -10,12 +10,14 @@ pub mod Notes
 pub mod PodName
 pub mod Program
 pub mod Refusal
+pub mod Selection
 pub mod Streams
 pub mod Text
 pub mod Words
 pub use Rattle.mesh_edge.specs.Sink
 pub use Rattle.mesh_edge.specs.Source
 pub use Rattle.mesh_doc.specs.Faults
+pub use Rattle.mesh_policy.specs.SelectFault
 pub use Rattle.mesh_policy.specs.Verdicts
 pub use Rattle.mesh_policy.specs.Workload
 pub use Rattle.manifest_json.specs.Document

@@ -1,10 +1,8 @@
 -- The name of a Pod, as commands and refusals write it.
 use Rattle.std.specs.Prelude.{ℕ, ◌==◌, Bool, ◌&&◌, List, ◌++◌, length, Option, Some, None, codes, nat_lt, if◌then◌else◌}
 use Rattle.std.specs.List.{position_or_len, before_first, after_first}
-use Rattle.std.specs.Str.{bytes_eq}
 use Rattle.mesh_text.specs.Bytes.{slash}
 use Rattle.mesh_text.specs.Dns.{is_label, is_subdomain}
-use Rattle.mesh_policy.specs.declared.pod.Pod.{Pod}
 
 pub record PodName : Type 0 where
   pub namespace : List ℕ
@@ -23,7 +21,3 @@ pod_name_of path =
 
 abbrev pub pod_text : PodName → List ℕ
 pod_text name = name.namespace ++ codes "/" ++ name.name
-
--- the Pod has that name
-abbrev pub is_named : PodName → Pod → Bool
-is_named name pod = bytes_eq pod.namespace name.namespace && bytes_eq pod.name name.name

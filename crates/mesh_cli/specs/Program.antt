@@ -2,8 +2,7 @@
 use Rattle.std.specs.Prelude.{◌≡◌, ℕ, ◌<◌, ◌≤◌, List, ◌++◌, length, Some, None, IfSome}
 use Rattle.mesh_edge.specs.Sink.{KnownSink, Adds, AddsFront, IsFlushed, NoWriteFault, WriteFaulted}
 use Rattle.mesh_edge.specs.Source.{KnownSource, IsSpent, NoReadFault, ReadFaulted, Takes, TakesSome}
-use Rattle.mesh_policy.specs.declared.bundle.Bundle.{Bundle}
-use Rattle.mesh_policy.specs.declared.pod.Pod.{Pod}
+use Rattle.mesh_policy.specs.Workload.{Workload, workload_of}
 use Rattle.manifest_json.specs.Document.{bundle_in}
 use Rattle.mesh_cli.specs.declared.refusal.Status.{Status}
 use Rattle.mesh_cli.specs.declared.refusal.Status.TheVariants as status
@@ -148,13 +147,13 @@ pub record IsAccepted (words : List (List ℕ)) (input : KnownSource) : Type 0 w
 abbrev pub Completes : Status → List ℕ → Streams → Streams → Type 0
 Completes status text old new = Finishes status old new (Delivers text old new)
 
--- one listener was written, which enforces the policies of the Pod
-pub record WritesListener (bundle : Bundle) (pod : Pod) (old new : Streams) : Type 0 where
+-- one listener was written, which enforces the policies of the workload
+pub record WritesListener (workload : Workload) (old new : Streams) : Type 0 where
   pub text : List ℕ
   pub delivers : Delivers text old new
-  pub enforces : Enforces bundle pod text
+  pub enforces : Enforces workload text
 
 -- one listener is written, which enforces the policies of the Pod that is asked for
 abbrev pub Serves : Status → {words : List (List ℕ)} {input : KnownSource} → IsAccepted words input → Streams → Streams → Type 0
 Serves status asked old new =
-    Finishes status old new (WritesListener (bundle_in asked.accepted.document) asked.accepted.pod old new)
+    Finishes status old new (WritesListener (workload_of (bundle_in asked.accepted.document) asked.accepted.pod) old new)

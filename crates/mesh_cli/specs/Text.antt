@@ -1,11 +1,10 @@
--- The text of a Pod's listener.
+-- The text of a workload's listener.
 use Rattle.std.specs.Prelude.{ℕ, List}
 use Rattle.serde_json.specs.Written.{compact_text}
-use Rattle.mesh_policy.specs.declared.bundle.Bundle.{Bundle}
-use Rattle.mesh_policy.specs.declared.pod.Pod.{Pod}
+use Rattle.mesh_policy.specs.Workload.{Workload}
 use Rattle.envoy_types.specs.Written.{written}
 use Rattle.mesh_cli.specs.Build.{built}
 
 -- compact JSON
-unfoldable pub listener_text : Bundle → Pod → List ℕ
-listener_text bundle pod = compact_text (written (built bundle pod))
+unfoldable pub listener_text : Workload → List ℕ
+listener_text workload = compact_text (written (built workload))

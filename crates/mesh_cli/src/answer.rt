@@ -1,10 +1,14 @@
 // What a command answers to the bytes of its input.
-ghost use Rattle.std.specs.Prelude.{◌≡◌, ◌≤◌, [], None, Some, length, string_bytes, option_copied, IfOk, IfErr, OnOk};
+ghost use Rattle.std.specs.Prelude.{◌≡◌, ◌≤◌, [], None, Some, length, string_bytes, IfOk, IfErr, IsTrue, OnOk};
 ghost use Rattle.serde_json.specs.View.{view};
 ghost use Rattle.mesh_doc.specs.Faults.{first};
 ghost use Rattle.manifest_json.specs.Document.{bundle_faults, bundle_in};
+ghost use Rattle.mesh_policy.specs.AcceptedBundle.{AcceptedBundle};
+ghost use Rattle.mesh_policy.specs.SelectFault.{pod_named};
+ghost use Rattle.mesh_policy.specs.Workload.{workload_of};
 ghost use Rattle.mesh_policy.specs.declared.pod.Pod.{Pod as Named};
 ghost use Rattle.mesh_cli.specs.Answer as answer;
+ghost use Rattle.mesh_cli.specs.Buildable.{is_buildable};
 ghost use Rattle.mesh_cli.specs.FirstForm.{not_yet as waits};
 ghost use Rattle.mesh_cli.specs.Headline.{Enforces, EnforcesFor};
 ghost use Rattle.mesh_cli.specs.Refusal.{Answer, Stops, writes};
@@ -14,12 +18,14 @@ use crate::counts::counts_text;
 use crate::first_form::not_yet;
 use crate::pod_name::PodName;
 use crate::refusal::{Stop, refuse, refuse_fault};
+use crate::selection::refuse_pod;
 use crate::text::listener_text;
 use crate::words::Command;
 use manifest_json::read_bundle;
 use mesh_doc::DocError;
-use mesh_policy::{Bundle, Pod};
-use mesh_text::{List, Memory};
+use mesh_policy::Bundle;
+use mesh_select::select;
+use mesh_text::List;
 use serde_json::Value;
 use std::alloc::Global;
 
@@ -59,6 +65,7 @@ fn read_document(alloc: Global, bytes: &[u8]) -> Result<Value, Stop>
 // The manifests of a document.
 fn read_manifests(alloc: Global, document: &Value) -> Result<Bundle, Stop>
     ensures faultless { OnOk result (first (bundle_faults (view document.now) []) ≡ None) }
+    ensures accepted { IfOk result AcceptedBundle }
     ensures ok { IfOk result (λ b. b ≡ bundle_in (view document.now)) }
     ensures err { IfErr result (λ why. (rest : Answer)
         → Stops why (answer.answer_unless (first (bundle_faults (view document.now) [])) rest)) }
@@ -70,41 +77,39 @@ fn read_manifests(alloc: Global, document: &Value) -> Result<Bundle, Stop>
     }
 }
 
-// The listener of the named Pod.
+// The listener of the named Pod, for the manifests that one is built for so far.
+#[tactic(auto, unfolding(crate::specs::Answer::translation))]
 fn translate(
     alloc: Global,
     document: &Value,
     bundle: &Bundle,
     name: &PodName,
 ) -> Result<String, Stop>
+    requires { AcceptedBundle bundle.now }
     ensures ok { IfOk result (λ s. answer.translation name.now bundle.now (waits (view document.now) bundle.now)
         ≡ writes (string_bytes s)) }
-    ensures enforces { IfOk result (λ s. (pod : Named) → waits (view document.now) bundle.now ≡ None
-        → answer.pod_named name.now bundle.now ≡ Some pod → Enforces bundle.now pod (string_bytes s)) }
+    ensures enforces { IfOk result (λ s. (pod : Named) → pod_named name.now.namespace name.now.name bundle.now ≡ Some pod
+        → Enforces (workload_of bundle.now pod) (string_bytes s)) }
     ensures err { IfErr result (λ why. Stops why
         (answer.translation name.now bundle.now (waits (view document.now) bundle.now))) }
 {
     match not_yet(document, bundle) {
-        None => {}
-        Some(spot) => return Err(refuse(alloc, spot.text(), "NotYet")),
-    }
-    let Some(pod) = pod_named(bundle, name) else {
-        return Err(no_workload(alloc, name));
-    };
-    Ok(listener_text(alloc, bundle, pod)?)
-}
-
-fn no_workload(alloc: Global, name: &PodName) -> Stop
-    ensures { Stops result (answer.no_workload name.now) }
-{
-    match name.text(alloc) {
-        Ok(place) => refuse(alloc, &place, "NoWorkload"),
-        Err(Memory) => Stop::Memory,
+        None => translate_selected(alloc, bundle, name),
+        Some(spot) => Err(refuse(alloc, spot.text(), "NotYet")),
     }
 }
 
-fn pod_named<'a>(bundle: &'a Bundle, name: &PodName) -> Option<&'a Pod>
-    ensures { option_copied result ≡ answer.pod_named name.now bundle.now }
+// The listener of the named Pod, where selection accepts it.
+fn translate_selected(alloc: Global, bundle: &Bundle, name: &PodName) -> Result<String, Stop>
+    requires accepted { AcceptedBundle bundle.now }
+    requires buildable { IsTrue (is_buildable bundle.now) }
+    ensures ok { IfOk result (λ s. answer.selection name.now bundle.now ≡ writes (string_bytes s)) }
+    ensures enforces { IfOk result (λ s. (pod : Named) → pod_named name.now.namespace name.now.name bundle.now ≡ Some pod
+        → Enforces (workload_of bundle.now pod) (string_bytes s)) }
+    ensures err { IfErr result (λ why. Stops why (answer.selection name.now bundle.now)) }
 {
-    bundle.pods.iter().find(|pod| name.is_of(pod))
+    match select(alloc, bundle, name.namespace(), name.name()) {
+        Ok(workload) => Ok(listener_text(alloc, &workload)?),
+        Err(error) => Err(refuse_pod(alloc, name, &error)),
+    }
 }

@@ -1,27 +1,29 @@
-// Builds the listener that enforces the policies of a Pod.
+// Builds the listener that enforces the policies of a workload.
 ghost use Rattle.std.specs.Prelude.{◌≡◌, IfOk, IsTrue};
 ghost use Rattle.mesh_policy.specs.Connection as connection;
 ghost use Rattle.mesh_cli.specs.Build as meaning;
 ghost use Rattle.mesh_cli.specs.BuildRules.{filters_of};
-ghost use Rattle.mesh_cli.specs.Buildable.{is_buildable};
+ghost use Rattle.mesh_cli.specs.Buildable.{are_buildable};
 
 use crate::build_rules::filters;
 use envoy_types::{ChainBody, ChainMatch, FilterChain, Listener, NetworkFilter, Transport};
-use mesh_policy::{Bundle, MESH_PROTOCOLS, Pod};
+use mesh_policy::{Action, AuthorizationPolicy, MESH_PROTOCOLS};
+use mesh_select::Workload;
 use mesh_text::{List, Memory, Text};
 use std::alloc::Global;
 
-/// The listener of a Pod. For the ports that no chain names it has a chain each for mutual TLS, for
+/// The listener of a workload. For the ports that no chain names it has a chain each for mutual TLS, for
 /// plain text and for TLS that is passed on unread.
 #[tactic(auto, unfolding(crate::specs::Build::built))]
-pub fn build(alloc: Global, bundle: &Bundle, pod: &Pod) -> Result<Listener, Memory>
-    requires { IsTrue (is_buildable bundle.now) }
-    ensures { IfOk result (λ l. l ≡ meaning.built bundle.now pod.now) }
+pub fn build(alloc: Global, workload: &Workload) -> Result<Listener, Memory>
+    requires { IsTrue (are_buildable workload.now.allow) }
+    ensures { IfOk result (λ l. l ≡ meaning.built workload.now) }
 {
+    let policies = workload.policies(Action::Allow);
     let mut chains = List::new(alloc);
-    chains.push(mutual_chain(alloc, bundle, pod)?)?;
-    chains.push(plain_chain(alloc, bundle, pod)?)?;
-    chains.push(opaque_chain(alloc, bundle, pod)?)?;
+    chains.push(mutual_chain(alloc, policies)?)?;
+    chains.push(plain_chain(alloc, policies)?)?;
+    chains.push(opaque_chain(alloc, policies)?)?;
     Ok(Listener {
         name: Text::of(alloc, "virtualInbound")?,
         address: Text::of(alloc, "0.0.0.0")?,
@@ -30,27 +32,21 @@ pub fn build(alloc: Global, bundle: &Bundle, pod: &Pod) -> Result<Listener, Memo
     })
 }
 
-fn mutual_chain(alloc: Global, bundle: &Bundle, pod: &Pod) -> Result<FilterChain, Memory>
-    requires { IsTrue (is_buildable bundle.now) }
-    ensures { IfOk result (λ c. c ≡ meaning.mutual_chain (filters_of bundle.now pod.now)) }
+fn mutual_chain(alloc: Global, policies: &[AuthorizationPolicy]) -> Result<FilterChain, Memory>
+    requires { IsTrue (are_buildable policies.now) }
+    ensures { IfOk result (λ c. c ≡ meaning.mutual_chain (filters_of policies.now)) }
 {
     let matching = ChainMatch {
         port: None,
         transport: Some(Transport::Tls),
         alpn: mesh_names(alloc)?,
     };
-    chain(
-        alloc,
-        "any-mtls",
-        matching,
-        true,
-        filters(alloc, bundle, pod)?,
-    )
+    chain(alloc, "any-mtls", matching, true, filters(alloc, policies)?)
 }
 
-fn plain_chain(alloc: Global, bundle: &Bundle, pod: &Pod) -> Result<FilterChain, Memory>
-    requires { IsTrue (is_buildable bundle.now) }
-    ensures { IfOk result (λ c. c ≡ meaning.plain_chain (filters_of bundle.now pod.now)) }
+fn plain_chain(alloc: Global, policies: &[AuthorizationPolicy]) -> Result<FilterChain, Memory>
+    requires { IsTrue (are_buildable policies.now) }
+    ensures { IfOk result (λ c. c ≡ meaning.plain_chain (filters_of policies.now)) }
 {
     let matching = ChainMatch {
         port: None,
@@ -62,13 +58,13 @@ fn plain_chain(alloc: Global, bundle: &Bundle, pod: &Pod) -> Result<FilterChain,
         "any-plain",
         matching,
         false,
-        filters(alloc, bundle, pod)?,
+        filters(alloc, policies)?,
     )
 }
 
-fn opaque_chain(alloc: Global, bundle: &Bundle, pod: &Pod) -> Result<FilterChain, Memory>
-    requires { IsTrue (is_buildable bundle.now) }
-    ensures { IfOk result (λ c. c ≡ meaning.opaque_chain (filters_of bundle.now pod.now)) }
+fn opaque_chain(alloc: Global, policies: &[AuthorizationPolicy]) -> Result<FilterChain, Memory>
+    requires { IsTrue (are_buildable policies.now) }
+    ensures { IfOk result (λ c. c ≡ meaning.opaque_chain (filters_of policies.now)) }
 {
     let matching = ChainMatch {
         port: None,
@@ -80,7 +76,7 @@ fn opaque_chain(alloc: Global, bundle: &Bundle, pod: &Pod) -> Result<FilterChain
         "any-opaque",
         matching,
         false,
-        filters(alloc, bundle, pod)?,
+        filters(alloc, policies)?,
     )
 }
 

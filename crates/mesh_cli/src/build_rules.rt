@@ -1,68 +1,47 @@
-// Builds the filter of the policies that apply to a Pod.
-ghost use Rattle.std.specs.Prelude.{◌≡◌, ◌≤◌, ◌+◌, ◌<◌, ◌^◌, ◌++◌, length, map, filter, IfOk, OnOk, IsTrue, if◌then◌else◌, [], ◌∷◌};
-ghost use Rattle.std.specs.List.{list_any};
+// Builds the filter of the ALLOW policies of a workload.
+ghost use Rattle.std.specs.Prelude.{◌≡◌, ◌≤◌, ◌+◌, ◌<◌, ◌^◌, ◌++◌, length, map, IfOk, OnOk, IsTrue, [], ◌∷◌};
 ghost use Rattle.envoy_types.specs.declared.rbac.PermissionLeaf.TheVariants.{DestinationPort};
-ghost use Rattle.mesh_policy.specs.Applies as apply;
 ghost use Rattle.mesh_cli.specs.BuildRules as meaning;
-ghost use Rattle.mesh_cli.specs.Buildable.{are_buildable, is_buildable};
+ghost use Rattle.mesh_cli.specs.Buildable.{are_buildable};
 
 use envoy_types::{
     NetworkFilter, PermissionLeaf, Principal, Rbac, RbacAction, RbacPolicy, RbacRules,
 };
-use mesh_policy::{AuthorizationPolicy, Bundle, OperationSpec, Pod, ROOT_NAMESPACE, Rule};
+use mesh_policy::{AuthorizationPolicy, OperationSpec, Rule};
 use mesh_text::{List, Memory, Text};
 use std::alloc::Global;
 
-/// The filters of each chain: that of the ALLOW policies, where one applies.
-pub fn filters(alloc: Global, bundle: &Bundle, pod: &Pod) -> Result<List<NetworkFilter>, Memory>
-    requires { IsTrue (is_buildable bundle.now) }
-    ensures { IfOk result (λ fs. fs ≡ meaning.filters_of bundle.now pod.now) }
+/// The filters of each chain: that of the ALLOW policies, where there is one.
+pub fn filters(
+    alloc: Global,
+    policies: &[AuthorizationPolicy],
+) -> Result<List<NetworkFilter>, Memory>
+    requires { IsTrue (are_buildable policies.now) }
+    ensures { IfOk result (λ fs. fs ≡ meaning.filters_of policies.now) }
 {
-    let policies = bundle.authorization.as_slice();
-    if some_applies(policies, pod) {
-        sole_filter(alloc, policies, pod)
-    } else {
-        Ok(List::new(alloc))
+    match policies.split_first() {
+        None => Ok(List::new(alloc)),
+        Some(_) => sole_filter(alloc, policies),
     }
-}
-
-fn some_applies(policies: &[AuthorizationPolicy], pod: &Pod) -> bool
-    ensures { result ≡ list_any (apply.applies pod.now) policies.now }
-{
-    policies.iter().any(|policy| applies(pod, policy))
-}
-
-// Whether a policy applies to a Pod: it is of the Pod's namespace, or of the root namespace.
-fn applies(pod: &Pod, policy: &AuthorizationPolicy) -> bool
-    ensures { result ≡ apply.applies pod.now policy.now }
-{
-    let namespace = policy.namespace.as_str();
-    namespace == pod.namespace.as_str() || namespace == ROOT_NAMESPACE
 }
 
 fn sole_filter(
     alloc: Global,
     policies: &[AuthorizationPolicy],
-    pod: &Pod,
 ) -> Result<List<NetworkFilter>, Memory>
     requires { IsTrue (are_buildable policies.now) }
-    ensures { IfOk result (λ fs.
-        fs ≡ meaning.allow_filter (filter (apply.applies pod.now) policies.now) ∷ []) }
+    ensures { IfOk result (λ fs. fs ≡ meaning.allow_filter policies.now ∷ []) }
 {
     let mut filters = List::new(alloc);
-    filters.push(allow_filter(alloc, policies, pod)?)?;
+    filters.push(allow_filter(alloc, policies)?)?;
     Ok(filters)
 }
 
-fn allow_filter(
-    alloc: Global,
-    policies: &[AuthorizationPolicy],
-    pod: &Pod,
-) -> Result<NetworkFilter, Memory>
+fn allow_filter(alloc: Global, policies: &[AuthorizationPolicy]) -> Result<NetworkFilter, Memory>
     requires { IsTrue (are_buildable policies.now) }
-    ensures { IfOk result (λ f. f ≡ meaning.allow_filter (filter (apply.applies pod.now) policies.now)) }
+    ensures { IfOk result (λ f. f ≡ meaning.allow_filter policies.now) }
 {
-    let policies = policies_of(alloc, policies, pod)?;
+    let policies = policies_of(alloc, policies)?;
     let rules = RbacRules {
         action: RbacAction::Allow,
         policies,
@@ -70,35 +49,15 @@ fn allow_filter(
     Ok(NetworkFilter::Rbac(Rbac { rules: Some(rules) }))
 }
 
-// One policy for each rule of the policies that apply.
-fn policies_of(
-    alloc: Global,
-    policies: &[AuthorizationPolicy],
-    pod: &Pod,
-) -> Result<List<RbacPolicy>, Memory>
-    ensures { IfOk result (λ ps. ps ≡ meaning.policies_of (filter (apply.applies pod.now) policies.now)) }
+// One policy for each rule of the policies.
+fn policies_of(alloc: Global, policies: &[AuthorizationPolicy]) -> Result<List<RbacPolicy>, Memory>
+    ensures { IfOk result (λ ps. ps ≡ meaning.policies_of policies.now) }
 {
     let mut found = List::new(alloc);
     for policy in policies {
-        push_if_applies(alloc, &mut found, pod, policy)?;
+        push_rules(alloc, &mut found, policy)?;
     }
     Ok(found)
-}
-
-fn push_if_applies(
-    alloc: Global,
-    found: &mut List<RbacPolicy>,
-    pod: &Pod,
-    policy: &AuthorizationPolicy,
-) -> Result<(), Memory>
-    ensures { OnOk result (found.new ≡ found.old ++ (if apply.applies pod.now policy.now
-        then meaning.rule_policies policy.now 0 policy.now.rules else [])) }
-{
-    if applies(pod, policy) {
-        push_rules(alloc, found, policy)
-    } else {
-        Ok(())
-    }
 }
 
 fn push_rules(

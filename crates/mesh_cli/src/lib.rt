@@ -15,6 +15,7 @@ mod print;
 mod print_filters;
 mod program;
 mod refusal;
+mod selection;
 mod text;
 mod words;
 

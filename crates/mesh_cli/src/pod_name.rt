@@ -1,7 +1,6 @@
 // The name of a Pod, as commands and refusals write it.
 ghost use Rattle.std.specs.Prelude.{◌≡◌, IfOk};
 
-use mesh_policy::Pod;
 use mesh_text::{Memory, Text, is_dns_label, is_dns_subdomain};
 use std::alloc::Global;
 use std::marker::Model;
@@ -22,7 +21,7 @@ impl<'a> Model for PodName<'a> {
 }
 
 impl<'a> PodName<'a> {
-    ghost use Rattle.mesh_cli.specs.PodName.{is_named, pod_name_of, pod_text};
+    ghost use Rattle.mesh_cli.specs.PodName.{pod_name_of, pod_text};
 
     /// The name that is written `NAMESPACE/NAME`; None for other texts.
     pub fn parse(path: &'a str) -> Option<PodName<'a>>
@@ -38,11 +37,16 @@ impl<'a> PodName<'a> {
         }
     }
 
-    /// Whether it is the name of the Pod.
-    pub fn is_of(&self, pod: &Pod) -> bool
-        ensures { result ≡ is_named self.now pod.now }
+    pub fn namespace(&self) -> &str
+        ensures { result.now ≡ self.now.namespace }
     {
-        pod.namespace.as_str() == self.namespace && pod.name.as_str() == self.name
+        self.namespace
+    }
+
+    pub fn name(&self) -> &str
+        ensures { result.now ≡ self.now.name }
+    {
+        self.name
     }
 
     /// The name as it is written.

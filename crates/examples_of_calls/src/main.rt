@@ -15,6 +15,7 @@ mod patterns;
 mod peers;
 mod places;
 mod requests;
+mod selections;
 mod shown;
 mod sinks;
 mod sources;
@@ -127,6 +128,7 @@ fn of_wholes(alloc: Global, call: &Call) -> Result<Option<String>, Stop> {
     }
     match call.name {
         "read_bundle" => Ok(Some(manifests::answer(alloc, call)?)),
+        "select" => Ok(Some(selections::answer(alloc, call)?)),
         "envoy_verdict" => Ok(Some(listeners::answer(alloc, call)?)),
         _ => Ok(None),
     }

@@ -29,7 +29,8 @@ HasLabelsOf found pod = found.keys ≡ inserted pod.labels
 -- under each name the port of the first entry of that name
 abbrev pub HasPorts : BTreeMap (Bor (List ℕ)) ℕ → List NamedPort → Type 0
 HasPorts found ports =
-    (name : List ℕ) → get_by (λ key. text_cmp name key.now) found ≡ option_map (λ entry. entry.port) (find (λ entry. bytes_eq entry.name name) ports)
+    (name : List ℕ) → get_by (λ key. text_cmp name key.now) found
+    ≡ option_map (λ entry. entry.port) (find (λ entry. bytes_eq entry.name name) ports)
 
 abbrev pub HasPortsOf : BTreeMap (Bor (List ℕ)) ℕ → Pod → Type 0
 HasPortsOf found pod = HasPorts found pod.ports

@@ -2,11 +2,24 @@
 //! (Envoy v3 API reference).
 #![tactic(auto)]
 
+mod access;
+mod authz;
+mod chains;
+mod headers;
 mod judge;
+mod jwt;
 mod listener;
+mod metadata;
 mod names;
+mod permission;
+mod principal;
 mod prune;
 mod rbac;
+mod state;
+mod strings;
+pub mod whole;
+mod words;
+mod worked;
 
 pub use judge::envoy_verdict;
 pub use listener::{ChainBody, ChainMatch, FilterChain, Listener, NetworkFilter, Transport};

@@ -1,20 +1,55 @@
 // The workload of a Pod in short, or why there is none.
 ghost use Rattle.mesh_policy.specs.AcceptedBundle.{AcceptedBundle};
 
-use crate::call::Call;
+use crate::call::{Call, number_in, text_in};
 use crate::shown::refused;
 use crate::stop::Stop;
 use manifest_json::read_bundle;
 use mesh_doc::Place;
-use mesh_policy::{Action, AuthorizationPolicy, Bundle};
+use mesh_policy::{Action, AuthorizationPolicy, Bundle, Mode, Protocol};
 use mesh_select::{SelectError, Workload, select};
 use mesh_text::List;
+use serde_json::Value;
 use std::alloc::Global;
 
-/// The workload of the Pod of the namespace and the name that the second and the third argument are.
+/// The workload of the Pod of the namespace and the name that the second and the third argument are. A document that is a
+/// list is a text in parts, each of which is a text, or one so many times.
 pub fn answer(alloc: Global, call: &Call) -> Result<String, Stop> {
+    match call.value(0)? {
+        Value::Array(parts) => of_document(alloc, &joined(alloc, parts.as_slice())?, call),
+        document => of_document(alloc, document, call),
+    }
+}
+
+fn joined(alloc: Global, parts: &[Value]) -> Result<Value, Stop> {
+    let mut text = String::new(alloc);
+    for part in parts {
+        push_part(&mut text, part)?;
+    }
+    match Value::from_str(alloc, text.as_str()) {
+        Ok(document) => Ok(document),
+        Err(_) => Err(Stop::Arguments),
+    }
+}
+
+// `TEXT`, or `{"repeat": TEXT, "times": NUMBER}`.
+fn push_part(text: &mut String, part: &Value) -> Result<(), Stop> {
+    match part {
+        Value::String(piece) => push_times(text, piece.as_str(), 1),
+        _ => push_times(text, text_in(part, "repeat")?, number_in(part, "times", 0)?),
+    }
+}
+
+fn push_times(text: &mut String, piece: &str, times: u64) -> Result<(), Stop> {
+    for _ in 0..times {
+        text.push_str(piece)?;
+    }
+    Ok(())
+}
+
+fn of_document(alloc: Global, document: &Value, call: &Call) -> Result<String, Stop> {
     let whole: Place = List::new(alloc);
-    match read_bundle(alloc, call.value(0)?, &whole) {
+    match read_bundle(alloc, document, &whole) {
         Ok(bundle) => selected(alloc, &bundle, call.text(1)?, call.text(2)?),
         Err(error) => refused(alloc, error),
     }
@@ -37,7 +72,7 @@ fn reason(alloc: Global, error: &SelectError) -> Result<String, Stop> {
             port,
             first,
             second,
-        } => format!(in alloc; "PortConflict {port} {first:?} {second:?}")?,
+        } => conflict(alloc, *port, *first, *second)?,
         SelectError::UnknownProvider(name) => format!(in alloc; "UnknownProvider {name}")?,
         SelectError::TwoProviders(name, other) => format!(in alloc; "TwoProviders {name} {other}")?,
         SelectError::TokenHeaderTested(name) => format!(in alloc; "TokenHeaderTested {name}")?,
@@ -52,6 +87,26 @@ fn reason(alloc: Global, error: &SelectError) -> Result<String, Stop> {
     Ok(told)
 }
 
+fn conflict(alloc: Global, port: u16, first: Protocol, second: Protocol) -> Result<String, Stop> {
+    let (first, second) = (protocol_word(first), protocol_word(second));
+    Ok(format!(in alloc; "PortConflict {port} {first} {second}")?)
+}
+
+fn protocol_word(protocol: Protocol) -> &'static str {
+    match protocol {
+        Protocol::Http => "http",
+        Protocol::Tcp => "tcp",
+    }
+}
+
+fn mode_word(mode: Mode) -> &'static str {
+    match mode {
+        Mode::Strict => "strict",
+        Mode::Permissive => "permissive",
+        Mode::Disable => "disable",
+    }
+}
+
 // The listed ports with what they speak and their modes, the mode of the others, the policies by their actions, the
 // issuers and the authorizer.
 fn shown(alloc: Global, workload: &Workload) -> Result<String, Stop> {
@@ -59,7 +114,7 @@ fn shown(alloc: Global, workload: &Workload) -> Result<String, Stop> {
     for number in workload.listed() {
         push_port(&mut out, workload, *number)?;
     }
-    write!(out, "other {:?}", workload.other_mode())?;
+    write!(out, "other {}", mode_word(workload.other_mode()))?;
     push_policies(&mut out, "custom", workload.policies(Action::Custom))?;
     push_policies(&mut out, "audit", workload.policies(Action::Audit))?;
     push_policies(&mut out, "deny", workload.policies(Action::Deny))?;
@@ -69,8 +124,9 @@ fn shown(alloc: Global, workload: &Workload) -> Result<String, Stop> {
 }
 
 fn push_port(out: &mut String, workload: &Workload, number: u16) -> Result<(), Stop> {
-    let (protocol, mode) = (workload.protocol(number), workload.mode(number));
-    write!(out, "{number} {protocol:?} {mode:?}; ")?;
+    let protocol = protocol_word(workload.protocol(number));
+    let mode = mode_word(workload.mode(number));
+    write!(out, "{number} {protocol} {mode}; ")?;
     Ok(())
 }
 

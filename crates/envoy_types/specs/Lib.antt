@@ -1,9 +1,7 @@
 pub mod Access
 pub mod Authz
 pub mod Chosen
-pub mod EnvoyVerdict
 pub mod Fields
-pub mod Filters
 pub mod Headers
 pub mod Jwt
 pub mod ListenerVerdict
@@ -12,8 +10,6 @@ pub mod Names
 pub mod Order
 pub mod Permission
 pub mod Principal
-pub mod Prune
-pub mod Rbac
 pub mod Run
 pub mod SameLeaves
 pub mod Spells

@@ -60,7 +60,8 @@ block_with_len addr len fits len' e =
     subst (λ (n : ℕ). (f : nat_le n (width addr) ≡ true) → block addr len fits ≡ block addr n f) e
     (λ f. ap (λ (p : nat_le len (width addr) ≡ true). block addr len p) (Bool-set _ _ fits f))
 
-block_with_address : (addr : IpAddr) (len : ℕ) (fits : nat_le len (width addr) ≡ true) (addr' : IpAddr) (len' : ℕ) → addr ≡ addr' → len ≡ len'
+block_with_address : (addr : IpAddr) (len : ℕ) (fits : nat_le len (width addr) ≡ true) (addr' : IpAddr) (len' : ℕ)
+    → addr ≡ addr' → len ≡ len'
     → (fits' : nat_le len' (width addr') ≡ true) → block addr len fits ≡ block addr' len' fits'
 block_with_address addr len fits addr' len' same e =
     subst (λ (a : IpAddr). (f : nat_le len' (width a) ≡ true) → block addr len fits ≡ block a len' f) same

@@ -6,27 +6,30 @@ use Rattle.std.specs.List.{list_any}
 use Rattle.std.specs.Str.{bytes_eq}
 use Rattle.serde_json.specs.Data.{Data, Items, no_items, item, Members, no_members, member}
 use Rattle.serde_json.specs.Find.{as_str, as_array, as_object}
-use Rattle.envoy_types.specs.declared.listener.ChainBody.{ChainBody}
-use Rattle.envoy_types.specs.declared.listener.ChainBody.TheVariants.{Tcp}
-use Rattle.envoy_types.specs.declared.listener.ChainMatch.{ChainMatch}
-use Rattle.envoy_types.specs.declared.listener.FilterChain.{FilterChain}
-use Rattle.envoy_types.specs.declared.listener.Listener.{Listener}
-use Rattle.envoy_types.specs.declared.listener.NetworkFilter.{NetworkFilter}
-use Rattle.envoy_types.specs.declared.listener.NetworkFilter.TheVariants as filter
-use Rattle.envoy_types.specs.declared.listener.Transport.{Transport}
-use Rattle.envoy_types.specs.declared.listener.Transport.TheVariants.{RawBuffer, Tls}
-use Rattle.envoy_types.specs.declared.rbac.PermissionLeaf.{PermissionLeaf}
-use Rattle.envoy_types.specs.declared.rbac.PermissionLeaf.TheVariants.{DestinationPort}
-use Rattle.envoy_types.specs.declared.rbac.Principal.{Principal}
-use Rattle.envoy_types.specs.declared.rbac.Principal.TheVariants.{Any}
-use Rattle.envoy_types.specs.declared.rbac.RbacAction.{RbacAction}
-use Rattle.envoy_types.specs.declared.rbac.RbacAction.TheVariants.{Allow, Deny, Log}
-use Rattle.envoy_types.specs.declared.rbac.RbacPolicy.{RbacPolicy}
+use Rattle.mesh_tree.specs.Tree.{tree_of}
+use Rattle.mesh_tree.specs.declared.tree.Node.TheVariants.{Any, Leaf}
+use Rattle.mesh_tree.specs.declared.tree.Tree.{Tree}
+use Rattle.envoy_types.specs.declared.chains.ChainBody.{ChainBody}
+use Rattle.envoy_types.specs.declared.chains.ChainBody.TheVariants.{Tcp}
+use Rattle.envoy_types.specs.declared.chains.ChainMatch.{ChainMatch}
+use Rattle.envoy_types.specs.declared.chains.FilterChain.{FilterChain}
+use Rattle.envoy_types.specs.declared.chains.Listener.{Listener}
+use Rattle.envoy_types.specs.declared.chains.NetworkFilter.{NetworkFilter}
+use Rattle.envoy_types.specs.declared.chains.NetworkFilter.TheVariants as filter
+use Rattle.envoy_types.specs.declared.chains.Transport.{Transport}
+use Rattle.envoy_types.specs.declared.chains.Transport.TheVariants.{RawBuffer, Tls}
+use Rattle.envoy_types.specs.declared.permission.PermissionLeaf.{PermissionLeaf}
+use Rattle.envoy_types.specs.declared.permission.PermissionLeaf.TheVariants.{DestinationPort}
+use Rattle.envoy_types.specs.declared.principal.PrincipalLeaf.{PrincipalLeaf}
+use Rattle.envoy_types.specs.declared.access.RbacAction.{RbacAction}
+use Rattle.envoy_types.specs.declared.access.RbacAction.TheVariants.{Allow, Deny, Log}
+use Rattle.envoy_types.specs.declared.access.RbacPolicy.{RbacPolicy}
 use Rattle.envoy_types.specs.Fields.{◌>>=◌, only_when, has_only, has, says, is_true, is_sole, is_pair, number_within, list_of, field, field_or}
 use Rattle.envoy_types.specs.Names.{original_dst_name, original_dst_type, tls_inspector_name, tls_inspector_type}
 use Rattle.envoy_types.specs.Names.{tls_socket_name, tls_socket_type, tcp_proxy_name, tcp_proxy_type, network_rbac_name, network_rbac_type}
-use Rattle.envoy_types.specs.Prune.{same_transport}
-use Rattle.envoy_types.specs.Rbac.{Rules, names_rise}
+use Rattle.envoy_types.specs.Access.{Rules}
+use Rattle.envoy_types.specs.Chosen.{same_transport}
+use Rattle.envoy_types.specs.Order.{names_rise}
 
 -- ---- limits of lists
 
@@ -96,15 +99,15 @@ socket_in d = only_when (is_tls_socket d) (Some true)
 
 -- ---- network RBAC
 
--- `config.rbac.v3.Permission`
-abbrev pub permission_in : Data → Option PermissionLeaf
+-- `config.rbac.v3.Permission`, of the leaves that are spelled so far
+abbrev pub permission_in : Data → Option (Tree PermissionLeaf)
 permission_in d = only_when (has_only (codes "destination_port" ∷ []) d) (do
   port ← field (codes "destination_port") (number_within 0 65535) d
-  Some (DestinationPort port))
+  Some (tree_of (Leaf (DestinationPort port))))
 
--- `config.rbac.v3.Principal`
-abbrev pub principal_in : Data → Option Principal
-principal_in d = only_when (has_only (codes "any" ∷ []) d && has (codes "any") is_true d) (Some Any)
+-- `config.rbac.v3.Principal`, of the trees that are spelled so far
+abbrev pub principal_in : Data → Option (Tree PrincipalLeaf)
+principal_in d = only_when (has_only (codes "any" ∷ []) d && has (codes "any") is_true d) (Some (tree_of Any))
 
 -- `config.rbac.v3.Policy`, under its name
 abbrev pub policy_in : List ℕ → Data → Option RbacPolicy
@@ -120,7 +123,8 @@ named_policies (member name d ms) = policy_in name d >>= λ policy. named_polici
 
 -- an object of policies by their names, in byte order of these
 abbrev pub policies_in : Data → Option (List RbacPolicy)
-policies_in d = as_object d >>= λ ms. named_policies ms >>= λ policies. only_when (names_rise policies) (Some policies)
+policies_in d = as_object d >>= λ ms. named_policies ms >>= λ policies.
+    only_when (names_rise (λ policy. policy.name) policies) (Some policies)
 
 -- `config.rbac.v3.RBAC.Action`
 abbrev pub action_named : List ℕ → Option RbacAction
@@ -152,7 +156,7 @@ is_rbac_config d =
 abbrev pub rbac_config_in : Data → Option NetworkFilter
 rbac_config_in d = only_when (is_rbac_config d) (do
   rules ← field_or (codes "rules") None rules_in d
-  Some (filter.Rbac (record { rules = rules })))
+  Some (filter.Rbac (record { rules = rules; shadow = None; shadow_prefix = [] })))
 
 -- a filter of this name, whatever its configuration
 abbrev pub is_named : List ℕ → Data → Bool

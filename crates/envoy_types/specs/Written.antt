@@ -1,26 +1,29 @@
--- The value that spells a listener: keys in byte order, and no field that has its default.
+-- The value that spells a listener: keys in byte order, and no field that has its default. What is not built so far, be it a
+-- filter, a leaf or a tree, has `null` in its place, which spells nothing.
 use Rattle.std.specs.Prelude.{ℕ, ◌==◌, Bool, true, false, List, [], ◌∷◌, ◌++◌, map, length, Option, Some, None, codes, if◌then◌else◌}
-use Rattle.serde_json.specs.Data.{Data, boolean, number, unsigned, string, array, object, Members, no_members, member, put}
+use Rattle.serde_json.specs.Data.{Data, null, boolean, number, unsigned, string, array, object, Members, no_members, member, put}
 use Rattle.serde_json.specs.View.{items_of}
-use Rattle.envoy_types.specs.declared.listener.ChainBody.{ChainBody}
-use Rattle.envoy_types.specs.declared.listener.ChainBody.TheVariants.{Tcp}
-use Rattle.envoy_types.specs.declared.listener.ChainMatch.{ChainMatch}
-use Rattle.envoy_types.specs.declared.listener.FilterChain.{FilterChain}
-use Rattle.envoy_types.specs.declared.listener.Listener.{Listener}
-use Rattle.envoy_types.specs.declared.listener.NetworkFilter.{NetworkFilter}
-use Rattle.envoy_types.specs.declared.listener.NetworkFilter.TheVariants as filter
-use Rattle.envoy_types.specs.declared.listener.Transport.{Transport}
-use Rattle.envoy_types.specs.declared.listener.Transport.TheVariants.{RawBuffer, Tls}
-use Rattle.envoy_types.specs.declared.rbac.PermissionLeaf.{PermissionLeaf}
-use Rattle.envoy_types.specs.declared.rbac.PermissionLeaf.TheVariants.{DestinationPort}
-use Rattle.envoy_types.specs.declared.rbac.Principal.{Principal}
-use Rattle.envoy_types.specs.declared.rbac.Principal.TheVariants.{Any}
-use Rattle.envoy_types.specs.declared.rbac.RbacAction.{RbacAction}
-use Rattle.envoy_types.specs.declared.rbac.RbacAction.TheVariants.{Allow, Deny, Log}
-use Rattle.envoy_types.specs.declared.rbac.RbacPolicy.{RbacPolicy}
+use Rattle.mesh_tree.specs.Tree.{node_of}
+use Rattle.mesh_tree.specs.declared.tree.Node.{Node, Node-F, out-Node}
+use Rattle.mesh_tree.specs.declared.tree.Tree.{Tree}
+use Rattle.envoy_types.specs.declared.chains.ChainBody.{ChainBody}
+use Rattle.envoy_types.specs.declared.chains.ChainBody.TheVariants.{Tcp, Http}
+use Rattle.envoy_types.specs.declared.chains.ChainMatch.{ChainMatch}
+use Rattle.envoy_types.specs.declared.chains.FilterChain.{FilterChain}
+use Rattle.envoy_types.specs.declared.chains.Listener.{Listener}
+use Rattle.envoy_types.specs.declared.chains.NetworkFilter.{NetworkFilter}
+use Rattle.envoy_types.specs.declared.chains.NetworkFilter.TheVariants as filter
+use Rattle.envoy_types.specs.declared.chains.Transport.{Transport}
+use Rattle.envoy_types.specs.declared.chains.Transport.TheVariants.{RawBuffer, Tls}
+use Rattle.envoy_types.specs.declared.permission.PermissionLeaf.{PermissionLeaf}
+use Rattle.envoy_types.specs.declared.permission.PermissionLeaf.TheVariants as permissions
+use Rattle.envoy_types.specs.declared.principal.PrincipalLeaf.{PrincipalLeaf}
+use Rattle.envoy_types.specs.declared.access.RbacAction.{RbacAction}
+use Rattle.envoy_types.specs.declared.access.RbacAction.TheVariants.{Allow, Deny, Log}
+use Rattle.envoy_types.specs.declared.access.RbacPolicy.{RbacPolicy}
 use Rattle.envoy_types.specs.Names.{original_dst_name, original_dst_type, tls_inspector_name, tls_inspector_type}
 use Rattle.envoy_types.specs.Names.{tls_socket_name, tls_socket_type, tcp_proxy_name, tcp_proxy_type, network_rbac_name, network_rbac_type}
-use Rattle.envoy_types.specs.Rbac.{Rules}
+use Rattle.envoy_types.specs.Access.{Rules}
 
 -- an object of these members, which stand in byte order of their keys
 abbrev pub fields : List (List ℕ × Data) → Members
@@ -65,13 +68,46 @@ tls_context = object (fields (
 abbrev pub tls_socket : Data
 tls_socket = named tls_socket_name tls_context
 
+-- the value of a destination port
+abbrev pub port_value : ℕ → Data
+port_value port = object (fields ((codes "destination_port", number (unsigned port)) ∷ []))
+
+-- the value that holds always
+abbrev pub any_value : Data
+any_value = object (fields ((codes "any", boolean true) ∷ []))
+
+-- a leaf of a permission
+abbrev pub permission_leaf : PermissionLeaf → Data
+permission_leaf (permissions.Header h) = null
+permission_leaf (permissions.UrlPath m) = null
+permission_leaf (permissions.UriTemplate t) = null
+permission_leaf (permissions.DestinationIp b) = null
+permission_leaf (permissions.DestinationPort port) = port_value port
+permission_leaf (permissions.ServerName m) = null
+
+-- by the opened first node
+abbrev pub permission_node : Node-F PermissionLeaf (Node PermissionLeaf) (Tree PermissionLeaf) → Data
+permission_node Node-F.Any = null
+permission_node (Node-F.Leaf leaf) = permission_leaf leaf
+permission_node (Node-F.And parts) = null
+permission_node (Node-F.Or parts) = null
+permission_node (Node-F.Not part) = null
+
 -- `config.rbac.v3.Permission`
-abbrev pub permission : PermissionLeaf → Data
-permission (DestinationPort port) = object (fields ((codes "destination_port", number (unsigned port)) ∷ []))
+abbrev pub permission : Tree PermissionLeaf → Data
+permission tree = permission_node (out-Node PermissionLeaf (node_of tree))
+
+-- by the opened first node
+abbrev pub principal_node : Node-F PrincipalLeaf (Node PrincipalLeaf) (Tree PrincipalLeaf) → Data
+principal_node Node-F.Any = any_value
+principal_node (Node-F.Leaf leaf) = null
+principal_node (Node-F.And parts) = null
+principal_node (Node-F.Or parts) = null
+principal_node (Node-F.Not part) = null
 
 -- `config.rbac.v3.Principal`
-abbrev pub principal : Principal → Data
-principal Any = object (fields ((codes "any", boolean true) ∷ []))
+abbrev pub principal : Tree PrincipalLeaf → Data
+principal tree = principal_node (out-Node PrincipalLeaf (node_of tree))
 
 -- `config.rbac.v3.Policy`
 abbrev pub policy : RbacPolicy → Data
@@ -114,6 +150,7 @@ rbac_config r = object (with_rules r (fields (
 -- a filter before the proxy
 abbrev pub network_filter : NetworkFilter → Data
 network_filter (filter.Rbac rbac) = named network_rbac_name (rbac_config rbac.rules)
+network_filter (filter.ExtAuthz authz) = null
 
 -- the TCP proxy, whose cluster is its prefix of statistics too
 abbrev pub tcp_proxy : List ℕ → Data
@@ -126,6 +163,7 @@ tcp_proxy cluster = named tcp_proxy_name (object (fields (
 -- the filters of a chain
 abbrev pub body : ChainBody → Data
 body (Tcp filters cluster) = array (items_of (map network_filter filters ++ tcp_proxy cluster ∷ []))
+body (Http filters cluster) = null
 
 -- `transport_protocol`
 abbrev pub transport : Transport → List ℕ

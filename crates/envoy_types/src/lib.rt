@@ -1,4 +1,4 @@
-//! The inbound listener of Envoy as a value, its meaning for a connection, and which JSON spells it
+//! The inbound listener of Envoy as a value, its meaning for a connection or request, and which JSON spells it
 //! (Envoy v3 API reference).
 #![tactic(auto)]
 
@@ -6,26 +6,35 @@ mod access;
 mod authz;
 mod chains;
 mod headers;
-mod judge;
 mod jwt;
-mod listener;
 mod metadata;
 mod names;
 mod permission;
 mod principal;
-mod prune;
-mod rbac;
 mod state;
 mod strings;
-pub mod whole;
 mod words;
 mod worked;
 
-pub use judge::envoy_verdict;
-pub use listener::{ChainBody, ChainMatch, FilterChain, Listener, NetworkFilter, Transport};
+pub use access::{Rbac, RbacAction, RbacPolicy, RbacRules};
+pub use authz::{AuthService, ExtAuthz};
+pub use chains::{
+    ChainBody, ChainMatch, FilterChain, HttpFilter, Listener, NetworkFilter, Transport,
+};
+pub use headers::{HeaderMatch, HeaderTest};
+pub use jwt::{JwtAuthn, JwtCheck, JwtProvider, Requirement};
+pub use metadata::ValueMatcher;
 pub use names::{
     NETWORK_RBAC_NAME, NETWORK_RBAC_TYPE, ORIGINAL_DST_NAME, ORIGINAL_DST_TYPE, TCP_PROXY_NAME,
     TCP_PROXY_TYPE, TLS_INSPECTOR_NAME, TLS_INSPECTOR_TYPE, TLS_SOCKET_NAME, TLS_SOCKET_TYPE,
     fixed_words,
 };
-pub use rbac::{PermissionLeaf, Principal, Rbac, RbacAction, RbacPolicy, RbacRules};
+pub use permission::PermissionLeaf;
+pub use principal::PrincipalLeaf;
+pub use state::State;
+pub use strings::{MatchKind, StringMatcher};
+pub use words::{AUTHORITY_HEADER, METHOD_HEADER, PATH_HEADER, SHADOW_POLICY_KEY, fixed_keys};
+pub use worked::{
+    chains_are_pruned, first_provider_sets_claims, marks_stay, shadow_rules_refuse_nothing,
+    sockets_show_peers,
+};

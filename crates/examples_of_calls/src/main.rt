@@ -8,9 +8,9 @@ mod call;
 mod copies;
 mod documents;
 mod forms;
-mod listeners;
 mod lists;
 mod manifests;
+mod matchers;
 mod patterns;
 mod peers;
 mod places;
@@ -126,10 +126,12 @@ fn of_wholes(alloc: Global, call: &Call) -> Result<Option<String>, Stop> {
     if let Some(answer) = copies::answer(alloc, call)? {
         return Ok(Some(answer));
     }
+    if let Some(answer) = matchers::answer(alloc, call)? {
+        return Ok(Some(answer));
+    }
     match call.name {
         "read_bundle" => Ok(Some(manifests::answer(alloc, call)?)),
         "select" => Ok(Some(selections::answer(alloc, call)?)),
-        "envoy_verdict" => Ok(Some(listeners::answer(alloc, call)?)),
         _ => Ok(None),
     }
 }

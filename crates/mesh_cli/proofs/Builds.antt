@@ -1,5 +1,5 @@
 -- What is known of the workload of manifests that a listener is built for so far: the ALLOW policies are those that apply.
-use Rattle.std.proofs.Common.{◌≡◌, ℕ, ◌==◌, Bool, true, false, cond, ◌&&◌, List, [], ◌∷◌, length, filter, refl, sym, ◌∙◌, ap}
+use Rattle.std.proofs.Common.{◌≡◌, ℕ, ◌==◌, Bool, true, false, cond, ◌&&◌, List, [], ◌∷◌, length, filter, refl, ◌∙◌, ap}
 use Rattle.std.proofs.Math.Dec.{eqb-suc-zero}
 use Rattle.std.proofs.lemmas.Bool.{and_parts}
 use Rattle.std.proofs.lemmas.Slice.Eq.{bytes_eq-Decides}
@@ -61,7 +61,8 @@ pub allow-of : (bundle : Bundle) (pod : Pod) → is_buildable bundle ≡ true
     → (workload_of bundle pod).allow ≡ filter (short.applies pod) bundle.authorization
 unfolding workload_of
 allow-of bundle pod h =
-    let at_root : bundle.mesh.root ≡ short.root_namespace = (bytes_eq-Decides bundle.mesh.root short.root_namespace).0 (and_parts _ _ (and_parts _ _ h).0).1 in
+    let at_root : bundle.mesh.root ≡ short.root_namespace =
+    (bytes_eq-Decides bundle.mesh.root short.root_namespace).0 (and_parts _ _ (and_parts _ _ h).0).1 in
     allow-is bundle.mesh.root pod bundle.authorization at_root (policies-of bundle h)
 
 -- one policy at most, whichever apply

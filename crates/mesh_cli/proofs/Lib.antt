@@ -12,4 +12,5 @@ mod Reasons
 mod Served
 mod Shallow
 mod Spelled
+mod Trees
 mod Verdict

@@ -1,8 +1,8 @@
 -- The policies of at most one AuthorizationPolicy with few rules stand in byte order of their names.
-use Rattle.std.proofs.Common.{◌≡◌, ℕ, ◌+◌, ◌<◌, ◌≤◌, Bool, true, false, List, [], ◌∷◌, ◌++◌, length, codes, nat_le, refl, sym, ◌∙◌, ap, arith, append_assoc}
+use Rattle.std.proofs.Common.{◌≡◌, ℕ, ◌+◌, ◌<◌, ◌≤◌, Bool, true, List, [], ◌∷◌, ◌++◌, length, codes, nat_le, refl, sym, ◌∙◌, ap, arith, append_assoc}
 use Rattle.std.specs.List.{list_all}
 use Rattle.std.specs.Fmt.{decimal}
-use Rattle.std.specs.Ordering.{nat_cmp, match_ordering, ordering_then}
+use Rattle.std.specs.Ordering.{is_lt, nat_cmp, ordering_then}
 use Rattle.std.specs.declared.cmp.Ordering.TheVariants.{Less, Equal}
 use Rattle.std.specs.Cmp.{nat_cmp_is}
 use Rattle.std.specs.Cmp.Lexicographic.{slice_cmp}
@@ -11,9 +11,14 @@ use Rattle.std.proofs.lemmas.Fmt.{decimal_digit}
 use Rattle.std.proofs.lemmas.List.{append-nil}
 use Rattle.mesh_policy.specs.declared.policy.AuthorizationPolicy.{AuthorizationPolicy}
 use Rattle.mesh_policy.specs.declared.policy.Rule.{Rule}
-use Rattle.envoy_types.specs.Rbac.{is_below, names_rise}
+use Rattle.envoy_types.specs.Order.{is_below, names_rise}
+use Rattle.envoy_types.specs.declared.access.RbacPolicy.{RbacPolicy}
 use Rattle.mesh_cli.specs.BuildRules.{rule_name, rule_policies, policies_of}
 use Rattle.mesh_cli.specs.Buildable.{allows_for_all, are_buildable, are_few, has_few_rules, has_one_operation}
+
+-- the policies stand in byte order of their names
+abbrev pub rise : List RbacPolicy → Bool
+rise policies = names_rise (λ policy. policy.name) policies
 
 same : (x : ℕ) → nat_cmp x x ≡ Equal
 same x = sym (nat_cmp_is x x Equal refl)
@@ -28,7 +33,7 @@ slice_cmp-front (x ∷ front) a b =
     ap (λ o. ordering_then o (slice_cmp nat_cmp (front ++ a) (front ++ b))) (same x) ∙ slice_cmp-front front a b
 
 behind : (front : List ℕ) (i j : ℕ) (end : List ℕ) → i < j → is_below (front ++ (i ∷ end)) (front ++ (j ∷ end)) ≡ true
-behind front i j end h = ap (λ o. match_ordering o true false false)
+behind front i j end h = ap is_lt
     (slice_cmp-front front (i ∷ end) (j ∷ end) ∙ ap (λ o. ordering_then o (slice_cmp nat_cmp end end)) (less i j h))
 
 digit_name : (front : List ℕ) (i : ℕ) → i < 10 → (front ++ decimal i) ++ codes "]" ≡ front ++ ((48 + i) ∷ codes "]")
@@ -58,22 +63,22 @@ below_all policy i k (rule ∷ rules) h few =
     and_from _ _ (name-below policy i k h digit) (below_all policy i (k + 1) rules later fewer)
 
 rules-rise : (policy : AuthorizationPolicy) (k : ℕ) (rules : List Rule) → k + length rules ≤ 10
-    → names_rise (rule_policies policy k rules) ≡ true
+    → rise (rule_policies policy k rules) ≡ true
 rules-rise policy k [] few = refl
 rules-rise policy k (rule ∷ rules) few =
     let next : k < k + 1 = omega arith in
     let fewer : k + 1 + length rules ≤ 10 = omega arith in
     and_from _ _ (below_all policy k (k + 1) rules next fewer) (rules-rise policy (k + 1) rules fewer)
 
-one-rises : (policy : AuthorizationPolicy) → has_few_rules policy ≡ true → names_rise (policies_of (policy ∷ [])) ≡ true
+one-rises : (policy : AuthorizationPolicy) → has_few_rules policy ≡ true → rise (policies_of (policy ∷ [])) ≡ true
 one-rises policy h =
     let rules = and_parts (allows_for_all policy) (are_few policy.rules) h in
     let counted = and_parts (nat_le (length policy.rules) 8) (list_all has_one_operation policy.rules) rules.1 in
     let few : length policy.rules ≤ 8 = leb-true (length policy.rules) 8 counted.0 in
     let fits : 0 + length policy.rules ≤ 10 = omega arith in
-    ap names_rise (append-nil (rule_policies policy 0 policy.rules)) ∙ rules-rise policy 0 policy.rules fits
+    ap rise (append-nil (rule_policies policy 0 policy.rules)) ∙ rules-rise policy 0 policy.rules fits
 
-pub policies-rise : (policies : List AuthorizationPolicy) → are_buildable policies ≡ true → names_rise (policies_of policies) ≡ true
+pub policies-rise : (policies : List AuthorizationPolicy) → are_buildable policies ≡ true → rise (policies_of policies) ≡ true
 policies-rise [] h = refl
 policies-rise (policy ∷ []) h = one-rises policy h
 policies-rise (policy ∷ (other ∷ policies)) h = cc

@@ -1,7 +1,7 @@
 -- Policies by their names, put into an object from the last one on.
 use Rattle.std.proofs.Common.{◌≡◌, ℕ, List, [], ◌∷◌, ◌++◌, length, refl, sym, ◌∙◌, ap, arith}
 use Rattle.serde_json.specs.Data.{Data, Members, put}
-use Rattle.envoy_types.specs.declared.rbac.RbacPolicy.{RbacPolicy}
+use Rattle.envoy_types.specs.declared.access.RbacPolicy.{RbacPolicy}
 use Rattle.envoy_types.specs.Written.{policy, policies_onto}
 
 policies_onto-last : (ms : Members) (front : List RbacPolicy) (last : RbacPolicy) → policies_onto ms (front ++ last ∷ [])

@@ -1,5 +1,5 @@
 -- The value that is written of the listener that is built is nested little, and holds no float.
-use Rattle.std.proofs.Common.{◌≡◌, ℕ, zero, suc, ◌+◌, ◌≤◌, max, Bool, true, false, ◌&&◌, ◌||◌, List, [], ◌∷◌, ◌++◌, map, Some, refl, ◌∙◌, ap, arith}
+use Rattle.std.proofs.Common.{◌≡◌, ℕ, zero, suc, ◌+◌, ◌≤◌, max, Bool, true, false, ◌&&◌, List, [], ◌∷◌, ◌++◌, map, refl, ◌∙◌, ap, arith}
 use Rattle.std.proofs.lemmas.Bool.{and_parts, and_from, or_from}
 use Rattle.std.specs.List.{list_all}
 use Rattle.std.proofs.lemmas.List.{append-nil}
@@ -9,19 +9,16 @@ use Rattle.mesh_policy.specs.declared.policy.AuthorizationPolicy.{AuthorizationP
 use Rattle.mesh_policy.specs.declared.policy.OperationSpec.{OperationSpec}
 use Rattle.mesh_policy.specs.declared.policy.Rule.{Rule}
 use Rattle.mesh_policy.specs.Workload.{Workload}
-use Rattle.envoy_types.specs.declared.listener.Listener.{Listener}
-use Rattle.envoy_types.specs.declared.listener.NetworkFilter.TheVariants as network
-use Rattle.envoy_types.specs.declared.rbac.PermissionLeaf.TheVariants.{DestinationPort}
-use Rattle.envoy_types.specs.declared.rbac.Principal.TheVariants.{Any}
-use Rattle.envoy_types.specs.declared.rbac.RbacAction.TheVariants.{Allow}
-use Rattle.envoy_types.specs.declared.rbac.RbacPolicy.{RbacPolicy}
+use Rattle.envoy_types.specs.declared.chains.Listener.{Listener}
+use Rattle.envoy_types.specs.declared.access.RbacPolicy.{RbacPolicy}
 use Rattle.envoy_types.specs.Written as form
 use Rattle.envoy_types.specs.Written.{written}
 use Rattle.mesh_cli.specs.Build.{listener_with, built}
-use Rattle.mesh_cli.specs.BuildRules.{filters_of, permissions_of, rule_name, rule_policies, policies_of}
+use Rattle.mesh_cli.specs.BuildRules.{anyone, filter_of, for_port, filters_of, permissions_of, rule_name, rule_policies, policies_of}
 use Rattle.mesh_cli.specs.Buildable.{are_buildable, has_one_operation, has_one_port, is_of_one_port, is_sole}
 use Rattle.mesh_cli.proofs.NamesRise.{policies-rise}
 use Rattle.mesh_cli.proofs.Spelled.{direct, in-order}
+use Rattle.mesh_cli.proofs.Trees.{anyone-written, port-written}
 
 -- nested at most n deep
 abbrev mutual
@@ -68,24 +65,24 @@ mutual
 -- ---- the policies of the filter
 
 sole-shallow : (name : List ℕ) (operations : List OperationSpec) → is_sole has_one_port operations ≡ true
-    → is_shallow 119 (form.policy (record { name = name; permissions = permissions_of operations; principals = Any ∷ [] })) ≡ true
+    → is_shallow 119 (form.policy (record { name = name; permissions = permissions_of operations; principals = anyone ∷ [] })) ≡ true
 sole-shallow name [] h = cc
 sole-shallow name (operation ∷ []) h = port operation.ports (and_parts _ _ h).1 where
   port : (ports : List ℕ) → is_of_one_port ports ≡ true
-      → is_shallow 119 (form.policy (record { name = name; permissions = map DestinationPort ports ++ []; principals = Any ∷ [] })) ≡ true
+      → is_shallow 119 (form.policy (record { name = name; permissions = map for_port ports ++ []; principals = anyone ∷ [] })) ≡ true
   port [] k = cc
-  port (p ∷ []) k = refl
+  port (p ∷ []) k = rw (port-written p, anyone-written) refl
   port (p ∷ (q ∷ ports)) k = cc
 sole-shallow name (operation ∷ (other ∷ operations)) h = cc
 
 sole-whole : (name : List ℕ) (operations : List OperationSpec) → is_sole has_one_port operations ≡ true
-    → has_float (form.policy (record { name = name; permissions = permissions_of operations; principals = Any ∷ [] })) ≡ false
+    → has_float (form.policy (record { name = name; permissions = permissions_of operations; principals = anyone ∷ [] })) ≡ false
 sole-whole name [] h = cc
 sole-whole name (operation ∷ []) h = port operation.ports (and_parts _ _ h).1 where
   port : (ports : List ℕ) → is_of_one_port ports ≡ true
-      → has_float (form.policy (record { name = name; permissions = map DestinationPort ports ++ []; principals = Any ∷ [] })) ≡ false
+      → has_float (form.policy (record { name = name; permissions = map for_port ports ++ []; principals = anyone ∷ [] })) ≡ false
   port [] k = cc
-  port (p ∷ []) k = refl
+  port (p ∷ []) k = rw (port-written p, anyone-written) refl
   port (p ∷ (q ∷ ports)) k = cc
 sole-whole name (operation ∷ (other ∷ operations)) h = cc
 
@@ -123,7 +120,7 @@ policies-whole (policy ∷ (other ∷ policies)) h = cc
 
 -- the listener whose one filter has these policies
 abbrev listener_of : List RbacPolicy → Listener
-listener_of policies = listener_with (network.Rbac (record { rules = Some (record { action = Allow; policies = policies }) }) ∷ [])
+listener_of policies = listener_with (filter_of policies ∷ [])
 
 listener-shallow : (policies : List RbacPolicy) → members_shallow 119 (form.policies policies) ≡ true
     → is_shallow 127 (written (listener_of policies)) ≡ true

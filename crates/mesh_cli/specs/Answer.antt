@@ -38,6 +38,7 @@ answer_for name None (Some workload) = writes (listener_text workload)
 abbrev pub workload_named : PodName → Bundle → Option Workload
 workload_named name bundle = option_map (workload_of bundle) (pod_named name.namespace name.name bundle)
 
+-- what selection answers for the Pod of that name
 abbrev pub selection : PodName → Bundle → Answer
 selection name bundle = answer_for name (select_fault bundle name.namespace name.name) (workload_named name bundle)
 

@@ -3,12 +3,12 @@
 use Rattle.std.specs.Prelude.{ℕ, Bool, true, false, List, [], ◌∷◌, Some, None, codes}
 use Rattle.mesh_policy.specs.Connection.{mesh_names}
 use Rattle.mesh_policy.specs.Workload.{Workload}
-use Rattle.envoy_types.specs.declared.listener.ChainBody.TheVariants.{Tcp}
-use Rattle.envoy_types.specs.declared.listener.ChainMatch.{ChainMatch}
-use Rattle.envoy_types.specs.declared.listener.FilterChain.{FilterChain}
-use Rattle.envoy_types.specs.declared.listener.Listener.{Listener}
-use Rattle.envoy_types.specs.declared.listener.NetworkFilter.{NetworkFilter}
-use Rattle.envoy_types.specs.declared.listener.Transport.TheVariants.{RawBuffer, Tls}
+use Rattle.envoy_types.specs.declared.chains.ChainBody.TheVariants.{Tcp}
+use Rattle.envoy_types.specs.declared.chains.ChainMatch.{ChainMatch}
+use Rattle.envoy_types.specs.declared.chains.FilterChain.{FilterChain}
+use Rattle.envoy_types.specs.declared.chains.Listener.{Listener}
+use Rattle.envoy_types.specs.declared.chains.NetworkFilter.{NetworkFilter}
+use Rattle.envoy_types.specs.declared.chains.Transport.TheVariants.{RawBuffer, Tls}
 use Rattle.mesh_cli.specs.BuildRules.{filters_of}
 
 -- the cluster of connections that go on as they came

@@ -134,7 +134,8 @@ pub record IsAnswered (words : List (List ℕ)) (input : KnownSource) (text : Li
   pub told : input.left ≡ Some bytes
   pub answer : answer_of command bytes ≡ writes text
 
--- the words ask for the listener of a Pod, and the input tells its bytes, which spell manifests with that Pod
+-- the words ask for the listener of a Pod, and the input tells its bytes, which spell manifests that a listener is built
+-- for; selection accepts the Pod
 pub record IsAccepted (words : List (List ℕ)) (input : KnownSource) : Type 0 where
   pub name : PodName
   pub given : command_of words ≡ Some (Translate name)

@@ -9,6 +9,7 @@ use Rattle.mesh_select.specs.declared.error.SelectError.TheVariants as error
 use Rattle.mesh_cli.specs.PodName.{PodName, pod_text}
 use Rattle.mesh_cli.specs.Refusal.{Answer, refuses_at}
 
+-- a protocol as refusals write it
 abbrev pub protocol_text : Protocol → List ℕ
 protocol_text Http = codes "http"
 protocol_text Tcp = codes "tcp"

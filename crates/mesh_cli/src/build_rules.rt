@@ -1,14 +1,12 @@
 // Builds the filter of the ALLOW policies of a workload.
 ghost use Rattle.std.specs.Prelude.{◌≡◌, ◌≤◌, ◌+◌, ◌<◌, ◌^◌, ◌++◌, length, map, IfOk, OnOk, IsTrue, [], ◌∷◌};
-ghost use Rattle.envoy_types.specs.declared.rbac.PermissionLeaf.TheVariants.{DestinationPort};
 ghost use Rattle.mesh_cli.specs.BuildRules as meaning;
 ghost use Rattle.mesh_cli.specs.Buildable.{are_buildable};
 
-use envoy_types::{
-    NetworkFilter, PermissionLeaf, Principal, Rbac, RbacAction, RbacPolicy, RbacRules,
-};
+use envoy_types::{NetworkFilter, PermissionLeaf, Rbac, RbacAction, RbacPolicy, RbacRules};
 use mesh_policy::{AuthorizationPolicy, OperationSpec, Rule};
 use mesh_text::{List, Memory, Text};
+use mesh_tree::Tree;
 use std::alloc::Global;
 
 /// The filters of each chain: that of the ALLOW policies, where there is one.
@@ -46,7 +44,11 @@ fn allow_filter(alloc: Global, policies: &[AuthorizationPolicy]) -> Result<Netwo
         action: RbacAction::Allow,
         policies,
     };
-    Ok(NetworkFilter::Rbac(Rbac { rules: Some(rules) }))
+    Ok(NetworkFilter::Rbac(Rbac {
+        rules: Some(rules),
+        shadow: None,
+        shadow_prefix: Text::of(alloc, "")?,
+    }))
 }
 
 // One policy for each rule of the policies.
@@ -84,7 +86,7 @@ fn rule_policy(
     let name = rule_name(alloc, policy, index)?;
     let permissions = permissions(alloc, rule)?;
     let mut principals = List::new(alloc);
-    principals.push(Principal::Any)?;
+    principals.push(Tree::any())?;
     Ok(RbacPolicy {
         name,
         permissions,
@@ -102,7 +104,7 @@ fn rule_name(alloc: Global, policy: &AuthorizationPolicy, index: usize) -> Resul
 }
 
 // One permission for each port of the operations.
-fn permissions(alloc: Global, rule: &Rule) -> Result<List<PermissionLeaf>, Memory>
+fn permissions(alloc: Global, rule: &Rule) -> Result<List<Tree<PermissionLeaf>>, Memory>
     ensures { IfOk result (λ ps. ps ≡ meaning.permissions_of rule.now.operations) }
 {
     let mut permissions = List::new(alloc);
@@ -113,13 +115,13 @@ fn permissions(alloc: Global, rule: &Rule) -> Result<List<PermissionLeaf>, Memor
 }
 
 fn push_ports(
-    permissions: &mut List<PermissionLeaf>,
+    permissions: &mut List<Tree<PermissionLeaf>>,
     operation: &OperationSpec,
 ) -> Result<(), Memory>
-    ensures { OnOk result (permissions.new ≡ permissions.old ++ map DestinationPort operation.now.ports) }
+    ensures { OnOk result (permissions.new ≡ permissions.old ++ map meaning.for_port operation.now.ports) }
 {
     for port in operation.ports.iter() {
-        permissions.push(PermissionLeaf::DestinationPort(*port))?;
+        permissions.push(Tree::leaf(PermissionLeaf::DestinationPort(*port)))?;
     }
     Ok(())
 }

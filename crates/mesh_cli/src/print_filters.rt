@@ -5,10 +5,11 @@ ghost use Rattle.serde_json.specs.View.{view, items_of, members_view};
 ghost use Rattle.envoy_types.specs.Written as form;
 
 use envoy_types::{
-    ChainBody, NETWORK_RBAC_NAME, NETWORK_RBAC_TYPE, NetworkFilter, PermissionLeaf, Principal,
+    ChainBody, NETWORK_RBAC_NAME, NETWORK_RBAC_TYPE, NetworkFilter, PermissionLeaf, PrincipalLeaf,
     RbacAction, RbacPolicy, RbacRules, TCP_PROXY_NAME, TCP_PROXY_TYPE,
 };
 use mesh_text::Memory;
+use mesh_tree::{Node, Tree};
 use serde_json::{Map, Value, json};
 use std::alloc::Global;
 
@@ -18,6 +19,7 @@ pub fn body_value(alloc: Global, body: &ChainBody) -> Result<Value, Memory>
 {
     match body {
         ChainBody::Tcp { filters, cluster } => { tcp_filters(alloc, filters, cluster) }
+        ChainBody::Http { .. } => Ok(Value::Null),
     }
 }
 
@@ -56,6 +58,7 @@ fn filter_value(alloc: Global, filter: &NetworkFilter) -> Result<Value, Memory>
             let config = rbac_config(alloc, rbac.rules.as_ref())?;
             Ok(json!(in alloc; {"name": NETWORK_RBAC_NAME, "typed_config": config})?)
         }
+        NetworkFilter::ExtAuthz(_) => Ok(Value::Null),
     }
 }
 
@@ -129,7 +132,7 @@ fn policy_value(alloc: Global, policy: &RbacPolicy) -> Result<Value, Memory>
     Ok(json!(in alloc; {"permissions": permissions, "principals": principals})?)
 }
 
-fn permission_values(alloc: Global, permissions: &[PermissionLeaf]) -> Result<Value, Memory>
+fn permission_values(alloc: Global, permissions: &[Tree<PermissionLeaf>]) -> Result<Value, Memory>
     ensures { IfOk result (λ v. view v ≡ array (items_of (map form.permission permissions.now))) }
 {
     let mut values = Vec::new(alloc);
@@ -140,18 +143,31 @@ fn permission_values(alloc: Global, permissions: &[PermissionLeaf]) -> Result<Va
     Ok(Value::Array(values))
 }
 
-fn permission_value(alloc: Global, permission: &PermissionLeaf) -> Result<Value, Memory>
+fn permission_value(alloc: Global, permission: &Tree<PermissionLeaf>) -> Result<Value, Memory>
     ensures { IfOk result (λ v. view v ≡ form.permission permission.now) }
 {
-    match permission {
+    match permission.node() {
+        Node::Leaf(leaf) => leaf_value(alloc, leaf),
+        Node::Any => Ok(Value::Null),
+        Node::And(_) => Ok(Value::Null),
+        Node::Or(_) => Ok(Value::Null),
+        Node::Not(_) => Ok(Value::Null),
+    }
+}
+
+fn leaf_value(alloc: Global, leaf: &PermissionLeaf) -> Result<Value, Memory>
+    ensures { IfOk result (λ v. view v ≡ form.permission_leaf leaf.now) }
+{
+    match leaf {
         PermissionLeaf::DestinationPort(port) => {
             let port = *port;
             Ok(json!(in alloc; {"destination_port": port})?)
         }
+        _ => Ok(Value::Null),
     }
 }
 
-fn principal_values(alloc: Global, principals: &[Principal]) -> Result<Value, Memory>
+fn principal_values(alloc: Global, principals: &[Tree<PrincipalLeaf>]) -> Result<Value, Memory>
     ensures { IfOk result (λ v. view v ≡ array (items_of (map form.principal principals.now))) }
 {
     let mut values = Vec::new(alloc);
@@ -162,10 +178,14 @@ fn principal_values(alloc: Global, principals: &[Principal]) -> Result<Value, Me
     Ok(Value::Array(values))
 }
 
-fn principal_value(alloc: Global, principal: &Principal) -> Result<Value, Memory>
+fn principal_value(alloc: Global, principal: &Tree<PrincipalLeaf>) -> Result<Value, Memory>
     ensures { IfOk result (λ v. view v ≡ form.principal principal.now) }
 {
-    match principal {
-        Principal::Any => Ok(json!(in alloc; {"any": true})?),
+    match principal.node() {
+        Node::Any => Ok(json!(in alloc; {"any": true})?),
+        Node::Leaf(_) => Ok(Value::Null),
+        Node::And(_) => Ok(Value::Null),
+        Node::Or(_) => Ok(Value::Null),
+        Node::Not(_) => Ok(Value::Null),
     }
 }

@@ -45,8 +45,9 @@ pub fn run<I: Source, O: Sink, E: Sink>(
         (record { input = I.known input.old; output = O.known output.old; notes = E.known notes.old })
         (record { input = I.known input.new; output = O.known output.new; notes = E.known notes.new }) }
 
-    // For every input that spells manifests and every Pod of theirs: one listener is written, which
-    // gives each connection the verdict of the policies, unless memory, a read or a write failed.
+    // For every input that spells manifests which a listener is built for, and every Pod that selection accepts: one
+    // listener is written, which gives each connection the verdict of the policies, unless memory, a read or a write
+    // failed.
     ensures headline { (asked : end.IsAccepted (map string_bytes words.now.items) (I.known input.old))
         → end.Serves result asked
         (record { input = I.known input.old; output = O.known output.old; notes = E.known notes.old })

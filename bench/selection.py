@@ -1,7 +1,7 @@
 #!/usr/bin/env python3
 """Time of selection over large documents, each at a quarter, a half and the whole of 4,096 items.
 
-    python3 bench/select.py PROGRAM [--runs N]
+    python3 bench/selection.py PROGRAM [--runs N]
 
 PROGRAM is the built `examples_of_calls` (crates/examples_of_calls/out/examples_of_calls after `rt run` or `rt ci`), of
 which one line is run: `select DOCUMENT, "foo", POD`. Three documents are made of one Pod `foo/web` and
@@ -72,7 +72,7 @@ def main():
     print("| Document | MiB | Items | Without selection, ms | With, ms | Selection, ms |")
     print("|---|---|---|---|---|---|")
     for name, make in DOCUMENTS.items():
-        wanted = {"services": "9000 Tcp Permissive; ", "policies": "other Permissive", "labels": "other Permissive"}[name]
+        wanted = {"services": "9000 tcp permissive; ", "policies": "other permissive", "labels": "other permissive"}[name]
         for share in (4, 2, 1):
             count = ITEMS // share
             text = json.dumps({"kind": "List", "items": make(count)}, separators=(",", ":"))

@@ -8,6 +8,7 @@ pub mod Attributes
 pub mod Authenticated
 pub mod Connection
 pub mod Explanation
+pub mod Jwt
 pub mod Lists
 pub mod MeshVerdict
 pub mod Modes

@@ -1,8 +1,10 @@
 // RequestAuthentications: whose tokens a workload takes, and where a request shows them.
 ghost use Rattle.std.specs.Prelude.{◌≡◌, IfOk};
+ghost use Rattle.mesh_policy.specs.Jwt.{default_places, or_default};
 
 use crate::Label;
 use crate::copies::TryCopy;
+use crate::names::{ACCESS_TOKEN, AUTHORIZATION, BEARER};
 use mesh_text::{List, Memory, Text};
 use std::alloc::Global;
 
@@ -75,4 +77,30 @@ impl Keys {
             Keys::Uri(uri) => Ok(Keys::Uri(uri.copy(alloc)?)),
         }
     }
+}
+
+/// These places, or where there are none those of a bearer token (RFC 6750, sections 2.1 and 2.3): the header
+/// `authorization` behind `Bearer `, and then the parameter `access_token`.
+pub fn places_or_default(
+    alloc: Global,
+    places: List<TokenPlace>,
+) -> Result<List<TokenPlace>, Memory>
+    ensures { IfOk result (λ known. known ≡ or_default places) }
+{
+    if places.is_empty() {
+        return default_places(alloc);
+    }
+    Ok(places)
+}
+
+fn default_places(alloc: Global) -> Result<List<TokenPlace>, Memory>
+    ensures { IfOk result (λ places. places ≡ default_places) }
+{
+    let mut places = List::new(alloc);
+    places.push(TokenPlace::Header {
+        name: Text::of(alloc, AUTHORIZATION)?,
+        prefix: Text::of(alloc, BEARER)?,
+    })?;
+    places.push(TokenPlace::Param(Text::of(alloc, ACCESS_TOKEN)?))?;
+    Ok(places)
 }

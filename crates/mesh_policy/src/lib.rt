@@ -28,12 +28,15 @@ mod worked_policies;
 pub use bundle::{Bundle, MeshConfig};
 pub use case::{Case, Tls};
 pub use condition::{BlockKey, Condition, TextKey};
-pub use jwt::{JwtRule, Keys, RequestAuthentication, TokenPlace};
+pub use jwt::{JwtRule, Keys, RequestAuthentication, TokenPlace, places_or_default};
 pub use laws::{peer_names_are_read, port_policies, workload_tells_ports};
 pub use limits::{
     MOST_ENTRIES, MOST_ITEMS, MOST_KEY_SET_BYTES, MOST_SLASHES, MOST_VALUE_BYTES, fixed_limits,
 };
-pub use names::{DEFAULT_NAMESPACE, MESH_PROTOCOLS, ROOT_NAMESPACE, fixed_names};
+pub use names::{
+    ACCESS_TOKEN, AUTHORIZATION, BEARER, DEFAULT_NAMESPACE, MESH_PROTOCOLS, ROOT_NAMESPACE,
+    fixed_names,
+};
 pub use path::path_of;
 pub use pattern::Pattern;
 pub use peer::{Mode, PeerAuthentication, PortMode};

@@ -15,18 +15,20 @@ use Rattle.mesh_doc.specs.declared.reason.Reason.TheVariants as reason
 use Rattle.mesh_policy.specs.AcceptedLists.{AcceptedList}
 use Rattle.mesh_policy.specs.AcceptedTokens.{AcceptedJwtRule, AcceptedPlaces, are_keys, has_headers_first, is_header, is_param, is_place}
 use Rattle.mesh_policy.specs.Values.{is_bounded, is_key_set, is_lower_name, is_name, lowered}
+use Rattle.mesh_policy.specs.Jwt.{default_places, or_default}
 use Rattle.mesh_policy.specs.declared.jwt.Keys.TheVariants as keys
 use Rattle.mesh_policy.specs.declared.jwt.TokenPlace.{TokenPlace}
 use Rattle.mesh_policy.specs.declared.jwt.TokenPlace.TheVariants as place
+use Rattle.mesh_policy.specs.declared.names.TheConstants.{ACCESS_TOKEN, AUTHORIZATION, BEARER}
 use Rattle.policy_json.proofs.AcceptedRules.{entries, short_ensures}
 use Rattle.policy_json.proofs.LowerCase.{lower_name}
 use Rattle.policy_json.specs.JwtRules.{is_empty_or_name, jwt_rule_faults, jwt_rule_in, key_set_faults, keys_in, payload_header_faults}
 use Rattle.policy_json.specs.KeySets.{keys_of, unless_empty}
 use Rattle.policy_json.specs.Texts.{bounded_text_faults, lower_name_faults, lower_name_in}
-use Rattle.policy_json.specs.TokenPlaces.{default_places, header_faults, header_in, or_default, param_faults, param_in, places_of}
+use Rattle.policy_json.specs.TokenPlaces.{header_faults, header_in, param_faults, param_in, places_of}
 use Rattle.policy_json.specs.declared.jwt_rules.TheConstants.{AUDIENCES, FORWARD, FROM_HEADERS, FROM_PARAMS, ISSUER}
 use Rattle.policy_json.specs.declared.jwt_rules.TheConstants.{JWKS, JWKS_URI, PAYLOAD_HEADER}
-use Rattle.policy_json.specs.declared.token_places.TheConstants.{ACCESS_TOKEN, AUTHORIZATION, BEARER, NAME, PREFIX}
+use Rattle.policy_json.specs.declared.token_places.TheConstants.{NAME, PREFIX}
 
 -- ---- texts
 

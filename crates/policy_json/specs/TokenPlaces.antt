@@ -4,10 +4,11 @@ use Rattle.serde_json.specs.Data.{Data}
 use Rattle.mesh_doc.specs.Faults.{Check, ◌⨾◌}
 use Rattle.mesh_doc.specs.Fields.{strict, required, required_in, optional, optional_in}
 use Rattle.mesh_doc.specs.Kinds.{text_in}
+use Rattle.mesh_policy.specs.Jwt.{or_default}
 use Rattle.mesh_policy.specs.declared.jwt.TokenPlace.{TokenPlace}
 use Rattle.mesh_policy.specs.declared.jwt.TokenPlace.TheVariants as place
 use Rattle.policy_json.specs.Texts.{bounded_text_faults, lower_name_faults, lower_name_in, short_text_faults}
-use Rattle.policy_json.specs.declared.token_places.TheConstants.{NAME, PREFIX, AUTHORIZATION, BEARER, ACCESS_TOKEN}
+use Rattle.policy_json.specs.declared.token_places.TheConstants.{NAME, PREFIX}
 
 -- JWTHeader: a header, and the prefix before the token, which is empty where none is written
 unfoldable pub header_faults : Check
@@ -27,15 +28,6 @@ param_faults = short_text_faults
 unfoldable pub param_in : Data → TokenPlace
 param_in d = place.Param (text_in d)
 
--- a rule that names no place: a bearer token (RFC 6750, sections 2.1 and 2.3)
-abbrev pub default_places : List TokenPlace
-default_places = place.Header AUTHORIZATION.now BEARER.now ∷ place.Param ACCESS_TOKEN.now ∷ []
-
--- the places that are written, or the default ones
-abbrev pub or_default : List TokenPlace → List TokenPlace
-or_default [] = default_places
-or_default (first ∷ more) = first ∷ more
-
--- the headers, and then the parameters
+-- the headers, and then the parameters; or the default ones
 abbrev pub places_of : List TokenPlace → List TokenPlace → List TokenPlace
 places_of headers params = or_default (headers ++ params)

@@ -1,10 +1,10 @@
 // Where a rule finds its tokens: headers, and then parameters.
 ghost use Rattle.std.specs.Prelude.{◌≡◌, IfOk};
-ghost use Rattle.policy_json.specs.TokenPlaces.{default_places, header_faults, header_in, param_faults, param_in, places_of};
+ghost use Rattle.policy_json.specs.TokenPlaces.{header_faults, header_in, param_faults, param_in, places_of};
 
 use crate::texts::{BoundedText, LowerName, ShortText};
 use mesh_doc::{DocError, Form, Spot, optional, required};
-use mesh_policy::TokenPlace;
+use mesh_policy::{TokenPlace, places_or_default};
 use mesh_text::{List, Memory, Text};
 use serde_json::Value;
 use std::alloc::Global;
@@ -12,12 +12,6 @@ use std::alloc::Global;
 const NAME: &str = "name";
 
 const PREFIX: &str = "prefix";
-
-const AUTHORIZATION: &str = "authorization";
-
-const BEARER: &str = "Bearer ";
-
-const ACCESS_TOKEN: &str = "access_token";
 
 /// An entry of `fromHeaders`: a header, and the prefix before the token, which is empty where none is written.
 pub(crate) struct FromHeader;
@@ -68,20 +62,5 @@ pub(crate) fn places_of(
 {
     let mut places = headers;
     places.append(params)?;
-    if places.is_empty() {
-        return default_places(alloc);
-    }
-    Ok(places)
-}
-
-fn default_places(alloc: Global) -> Result<List<TokenPlace>, Memory>
-    ensures { IfOk result (λ places. places ≡ default_places) }
-{
-    let mut places = List::new(alloc);
-    places.push(TokenPlace::Header {
-        name: Text::of(alloc, AUTHORIZATION)?,
-        prefix: Text::of(alloc, BEARER)?,
-    })?;
-    places.push(TokenPlace::Param(Text::of(alloc, ACCESS_TOKEN)?))?;
-    Ok(places)
+    places_or_default(alloc, places)
 }

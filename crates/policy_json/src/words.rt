@@ -105,8 +105,4 @@ pub fn request_words()
     ensures from_params { jwt_rule.FROM_PARAMS.now ≡ codes "fromParams" }
     ensures forward { jwt_rule.FORWARD.now ≡ codes "forwardOriginalToken" }
     ensures payload_header { jwt_rule.PAYLOAD_HEADER.now ≡ codes "outputPayloadToHeader" }
-
-    ensures authorization { place.AUTHORIZATION.now ≡ codes "authorization" }
-    ensures bearer { place.BEARER.now ≡ codes "Bearer " }
-    ensures access_token { place.ACCESS_TOKEN.now ≡ codes "access_token" }
 {}

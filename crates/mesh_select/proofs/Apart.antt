@@ -1,15 +1,19 @@
--- Entries of which no two are the same stay so where they are put in order.
-use Rattle.std.proofs.Common.{suc, Bool, true, false, cond, All, AllPairs, List, [], ◌∷◌, arith}
-use Rattle.std.proofs.lemmas.List.Elements.{All-head, All-tail}
+-- What holds of each entry and each later one, in a list that is mapped, and in one that is put in order: entries of
+-- which no two are the same stay so.
+use Rattle.std.proofs.Common.{suc, Bool, true, false, cond, All, AllPairs, List, [], ◌∷◌, map, arith}
+use Rattle.std.proofs.lemmas.List.Elements.{All-head, All-map, All-tail}
 use Rattle.std.proofs.lemmas.List.Kept.{AllPairs-cons}
 use Rattle.mesh_policy.specs.Lists.{in_order, put}
 use Rattle.mesh_select.proofs.Bounds.{all-in_order, all-put}
 
 module _ {A : Type 0} (R : A → A → Type 0) where
-  pairs-head : (x : A) (xs : List A) → AllPairs R (x ∷ xs) → All (R x) xs
+  pub pairs-nil : AllPairs R []
+  pairs-nil = λ i j d before within. absurd (omega arith)
+
+  pub pairs-head : (x : A) (xs : List A) → AllPairs R (x ∷ xs) → All (R x) xs
   pairs-head x xs h = λ k d within. h 0 (suc k) d (omega arith) (omega arith)
 
-  pairs-tail : (x : A) (xs : List A) → AllPairs R (x ∷ xs) → AllPairs R xs
+  pub pairs-tail : (x : A) (xs : List A) → AllPairs R (x ∷ xs) → AllPairs R xs
   pairs-tail x xs h = λ i j d before within. h (suc i) (suc j) d (omega arith) (omega arith)
 
   module _ (turned : (x y : A) → R x y → R y x) (before : A → A → Bool) where
@@ -26,3 +30,9 @@ module _ {A : Type 0} (R : A → A → Type 0) where
     pairs-in_order [] h = h
     pairs-in_order (x ∷ xs) h =
         pairs-put x (in_order before xs) (all-in_order before (R x) xs (pairs-head x xs h)) (pairs-in_order xs (pairs-tail x xs h))
+
+pub pairs-map : {A B : Type 0} (R : B → B → Type 0) (f : A → B) (xs : List A) → AllPairs (λ x y. R (f x) (f y)) xs → AllPairs R (map f xs)
+pairs-map R f [] h = pairs-nil R
+pairs-map {A} R f (x ∷ xs) h =
+    AllPairs-cons R (f x) (map f xs) (All-map (R (f x)) f xs (pairs-head (λ (a b : A). R (f a) (f b)) x xs h))
+    (pairs-map R f xs (pairs-tail (λ (a b : A). R (f a) (f b)) x xs h))

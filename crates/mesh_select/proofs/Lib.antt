@@ -1,4 +1,5 @@
 pub mod Apart
+pub mod Authorizer
 pub mod Bounds
 pub mod Found
 pub mod Judged
@@ -7,4 +8,5 @@ pub mod Limits
 pub mod Lookups
 pub mod Order
 pub mod Reasons
+pub mod Rising
 pub mod Steps

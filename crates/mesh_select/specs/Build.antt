@@ -10,9 +10,12 @@ use Rattle.mesh_policy.specs.declared.service.Protocol.{Protocol}
 use Rattle.mesh_policy.specs.declared.service.Protocol.TheVariants.{Http, Tcp}
 use Rattle.mesh_select.specs.Modes.{Levels, mode_from}
 
+-- what a listed port speaks: HTTP where a Service says so, else TCP (Istio, "Protocol Selection")
 abbrev pub protocol_in : List ℕ → ℕ → Protocol
 protocol_in http number = if list_any (is_at (nat_cmp number)) http then Http else Tcp
 
+-- A listed port with what it speaks and its mutual TLS mode: that of the workload's policy for this port, or the first that
+-- is set for all ports (Istio reference, PeerAuthentication: `portLevelMtls`, `mtls`).
 abbrev pub port_with : List ℕ → Levels → ℕ → ListedPort
 port_with http levels number = record {
   number = number;

@@ -6,6 +6,7 @@ use Rattle.mesh_policy.specs.declared.jwt.JwtRule.{JwtRule}
 use Rattle.mesh_policy.specs.declared.policy.Rule.{Rule}
 use denote.Ref.{Bor}
 
+-- the headers that the conditions of rules test (Istio, "Authorization Policy Conditions": `request.headers`)
 abbrev pub tested_by_rules : List Rule → List (List ℕ)
 tested_by_rules rules = flat_map (λ rule. flat_map headers_of_condition rule.conditions) rules
 

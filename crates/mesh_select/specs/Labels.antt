@@ -32,5 +32,6 @@ HasPorts found ports =
     (name : List ℕ) → get_by (λ key. text_cmp name key.now) found
     ≡ option_map (λ entry. entry.port) (find (λ entry. bytes_eq entry.name name) ports)
 
+-- the container ports of the Pod by name (Kubernetes API reference, Container: `ports`)
 abbrev pub HasPortsOf : BTreeMap (Bor (List ℕ)) ℕ → Pod → Type 0
 HasPortsOf found pod = HasPorts found pod.ports

@@ -10,16 +10,20 @@ use Rattle.mesh_policy.specs.declared.peer.PeerAuthentication.{PeerAuthenticatio
 use Rattle.mesh_select.specs.declared.modes.Width.{Width}
 use Rattle.mesh_select.specs.declared.modes.Width.TheVariants.{Workload, Namespace, Mesh}
 
+-- the policy that counts for the workload, for its namespace and for the mesh, where there is one
 pub record Levels : Type 0 where
   pub workload : Option PeerAuthentication
   pub namespace : Option PeerAuthentication
   pub mesh : Option PeerAuthentication
 
+-- A policy with a selector speaks for workloads, one without for its namespace, and in the root namespace for the mesh
+-- (Istio reference, PeerAuthentication: `selector`; MeshConfig: `rootNamespace`).
 abbrev pub has_width : Width → List ℕ → PeerAuthentication → Bool
 has_width Workload root policy = has_selector policy
 has_width Namespace root policy = not (has_selector policy) && not (bytes_eq policy.namespace root)
 has_width Mesh root policy = not (has_selector policy) && bytes_eq policy.namespace root
 
+-- of the policies that apply the oldest of each width
 abbrev pub levels_of : List ℕ → List PeerAuthentication → Levels
 levels_of root peers = record {
   workload = oldest (filter (has_width Workload root) peers);

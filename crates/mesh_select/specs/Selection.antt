@@ -9,6 +9,7 @@ use Rattle.mesh_select.specs.Modes.{levels_of}
 use Rattle.mesh_select.specs.Ports.{given_by_all, numbers_with}
 use Rattle.mesh_select.specs.declared.selection.Selection.TheInside.{Inside}
 
+-- the ports, policies and rules that apply to the Pod, each as its definition has it
 pub record HasParts (s : Inside) : Type 0 where
   pub given : s.given.items ≡ given_by_all s.pod s.bundle.now.services
   pub http : s.http.keys ≡ numbers_with Http (given_by_all s.pod s.bundle.now.services)

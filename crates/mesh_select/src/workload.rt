@@ -25,8 +25,8 @@ impl Model for ListedPort {
 }
 
 /// What selection gives for a Pod: its ports and their modes, and the policies that apply to it. `select` alone makes
-/// one. Its policies and rules are accepted, it lists 16 ports at most, and its policies and rules hold 2,048 values,
-/// 1,024 entries and 65,536 bytes at most.
+/// one. Its policies and rules are accepted, each policy under its action, and the CUSTOM policies name its provider. It
+/// lists 16 ports at most, ascending, and its policies and rules hold 2,048 values, 1,024 entries and 65,536 bytes at most.
 #[derive(Debug, Drop)]
 pub struct Workload {
     pub(crate) listed: List<u16>,
@@ -114,7 +114,8 @@ impl Workload {
         self.provider.as_ref()
     }
 
-    /// A law of every workload: its policies and rules are accepted, and it keeps the limits. The call does nothing.
+    /// A law of every workload: it keeps the limits, its ports are listed in order, its policies and rules are accepted,
+    /// each policy under its action, and the CUSTOM policies name its provider. The call does nothing.
     pub fn limits(&self)
         ensures { KeepsLimits self.now }
     {

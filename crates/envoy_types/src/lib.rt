@@ -5,8 +5,10 @@
 mod access;
 mod authz;
 mod chains;
+pub mod fixed;
 mod headers;
 mod jwt;
+pub mod keys;
 mod metadata;
 mod names;
 mod permission;
@@ -25,9 +27,11 @@ pub use headers::{HeaderMatch, HeaderTest};
 pub use jwt::{JwtAuthn, JwtCheck, JwtProvider, Requirement};
 pub use metadata::ValueMatcher;
 pub use names::{
-    NETWORK_RBAC_NAME, NETWORK_RBAC_TYPE, ORIGINAL_DST_NAME, ORIGINAL_DST_TYPE, TCP_PROXY_NAME,
-    TCP_PROXY_TYPE, TLS_INSPECTOR_NAME, TLS_INSPECTOR_TYPE, TLS_SOCKET_NAME, TLS_SOCKET_TYPE,
-    fixed_words,
+    HTTP_AUTHZ_NAME, HTTP_AUTHZ_TYPE, HTTP_MANAGER_NAME, HTTP_MANAGER_TYPE, HTTP_RBAC_NAME,
+    HTTP_RBAC_TYPE, JWT_NAME, JWT_TYPE, NETWORK_AUTHZ_NAME, NETWORK_AUTHZ_TYPE, NETWORK_RBAC_NAME,
+    NETWORK_RBAC_TYPE, ORIGINAL_DST_NAME, ORIGINAL_DST_TYPE, ROUTER_NAME, ROUTER_TYPE,
+    TCP_PROXY_NAME, TCP_PROXY_TYPE, TLS_INSPECTOR_NAME, TLS_INSPECTOR_TYPE, TLS_SOCKET_NAME,
+    TLS_SOCKET_TYPE, URI_TEMPLATE_NAME, URI_TEMPLATE_TYPE, filter_words,
 };
 pub use permission::PermissionLeaf;
 pub use principal::PrincipalLeaf;

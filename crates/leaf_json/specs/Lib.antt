@@ -1,0 +1,5 @@
+pub mod Form
+pub use Rattle.serde_json.specs.View
+pub use Rattle.envoy_types.specs.StringForms
+pub use Rattle.envoy_types.specs.TreeForms
+pub use Rattle.envoy_types.specs.WrittenFields

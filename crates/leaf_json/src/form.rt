@@ -1,0 +1,49 @@
+//! What a kind of leaves says of its JSON, so that trees of either kind are written and read by one code.
+ghost use Rattle.std.specs.Prelude.{◌≡◌, true, IfOk};
+
+use mesh_text::Memory;
+use mesh_tree::Leaf;
+use serde_json::Value;
+use std::alloc::Global;
+
+/// The parts of a tree that have a name in JSON.
+#[derive(Clone, Copy, Debug, PartialEq, Eq)]
+pub enum Word {
+    And,
+    Or,
+    /// The field of an And or an Or that holds its parts.
+    Parts,
+    Not,
+}
+
+/// Leaves with their JSON (Envoy v3 API, `config.rbac.v3.Permission` and `Principal`).
+pub trait Form: Leaf {
+    ghost use Rattle.serde_json.specs.View.{view};
+    ghost use Rattle.mesh_doc.specs.Known.{names_of};
+    ghost use Rattle.envoy_types.specs.TreeForms.{TreeForm, known_names};
+    ghost use Rattle.leaf_json.specs.Form.{HasOwnNames, ReadsBack, WritesLeaf, word_of};
+
+    /// The words of the kind, and the form of its leaves: what is written, what can be wrong, and what it means.
+    ghost form: { TreeForm Self };
+
+    /// The names of all alternatives, parted by single spaces.
+    fn known() -> &'static str
+        ensures { names_of result.now ≡ known_names form };
+
+    /// The name of a part of a tree.
+    fn word(word: Word) -> &'static str
+        ensures { result.now ≡ word_of form word };
+
+    /// The leaf as an object with the one alternative.
+    fn write(&self, alloc: Global) -> Result<Value, Memory>
+        ensures { IfOk result (λ v. view v ≡ form.leaf_written self.now) };
+
+    // The alternatives have names of their own.
+    ghost own_names: { HasOwnNames form };
+
+    // A written leaf is an object with one field, whose name is that of a leaf.
+    ghost one_field: { (leaf : Self) → WritesLeaf form leaf };
+
+    // A leaf that can be written reads back.
+    ghost reads_back: { (leaf : Self) → form.leaf_is_printable leaf ≡ true → ReadsBack form leaf };
+}

@@ -1,0 +1,78 @@
+//! The leaves of principals as JSON.
+ghost use Rattle.std.specs.Prelude.{◌≡◌, IfOk};
+ghost use Rattle.std.specs.Option.{option_copied};
+ghost use Rattle.serde_json.specs.View.{view};
+ghost use Rattle.envoy_types.specs.PrincipalForms.{authenticated_written};
+
+use crate::blocks::block_value;
+use crate::fields::{Fields, sole_field};
+use crate::form::{Form, Word};
+use crate::headers::header_value;
+use crate::values::metadata_value;
+use envoy_types::keys::{
+    AND_IDS, AUTHENTICATED, DIRECT_REMOTE_IP, HEADER, IDS, METADATA, NOT_ID, OR_IDS,
+    PRINCIPAL_NAME, REMOTE_IP,
+};
+use envoy_types::whole::{PrincipalLeaf, StringMatcher};
+use mesh_text::Memory;
+use serde_json::Value;
+use std::alloc::Global;
+
+/// The names of all alternatives of a principal.
+const KNOWN: &str = "and_ids or_ids not_id any authenticated direct_remote_ip header metadata remote_ip";
+
+impl Form for PrincipalLeaf {
+    ghost use Rattle.envoy_types.specs.PrincipalForms.{principal_form};
+    ghost use Rattle.leaf_json.proofs.PrincipalLaws.{principal_names, principal_one_field, principal_reads_back};
+
+    ghost form = { principal_form };
+
+    fn known() -> &'static str {
+        KNOWN
+    }
+
+    fn word(word: Word) -> &'static str {
+        match word {
+            Word::And => AND_IDS,
+            Word::Or => OR_IDS,
+            Word::Parts => IDS,
+            Word::Not => NOT_ID,
+        }
+    }
+
+    #[tactic(auto, unfolding(envoy_types::specs::PrincipalForms::principal_leaf_written))]
+    fn write(&self, alloc: Global) -> Result<Value, Memory> {
+        match self {
+            PrincipalLeaf::Authenticated(name) => {
+                sole_field(alloc, AUTHENTICATED, authenticated_value(alloc, name.as_ref())?)
+            }
+            PrincipalLeaf::DirectRemoteIp(block) => {
+                sole_field(alloc, DIRECT_REMOTE_IP, block_value(alloc, block)?)
+            }
+            PrincipalLeaf::RemoteIp(block) => {
+                sole_field(alloc, REMOTE_IP, block_value(alloc, block)?)
+            }
+            PrincipalLeaf::Header(header) => {
+                sole_field(alloc, HEADER, header_value(alloc, header)?)
+            }
+            PrincipalLeaf::Metadata { path, value } => {
+                sole_field(alloc, METADATA, metadata_value(alloc, path, value)?)
+            }
+        }
+    }
+
+    ghost own_names = { principal_names };
+
+    ghost one_field = { principal_one_field };
+
+    ghost reads_back = { principal_reads_back };
+}
+
+#[tactic(auto, unfolding(envoy_types::specs::PrincipalForms::authenticated_written))]
+fn authenticated_value(alloc: Global, name: Option<&StringMatcher>) -> Result<Value, Memory>
+    ensures { IfOk result (λ v. view v ≡ authenticated_written (option_copied name.entry)) }
+{
+    let mut fields = Fields::new(alloc);
+    fields.put_optional(alloc, PRINCIPAL_NAME, name)?;
+    Ok(fields.into_value())
+}

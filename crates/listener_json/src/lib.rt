@@ -1,0 +1,14 @@
+//! The JSON of listeners, written (Envoy v3 API reference; docs/FORMATS.md has the forms).
+#![tactic(auto)]
+
+mod authz;
+mod chains;
+mod filters;
+mod jwt;
+mod listener;
+mod providers;
+mod rbac;
+mod routes;
+mod sockets;
+
+pub use listener::to_value;

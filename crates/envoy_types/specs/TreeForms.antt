@@ -1,12 +1,12 @@
 -- The JSON of matcher trees (Envoy v3 API reference, `config.rbac.v3.Permission` and `Principal`): an object with one of its
 -- alternatives, told by the words of the kind and by the form of its leaves. The definitions go down the value itself.
-use Rattle.std.specs.Prelude.{ℕ, ◌+◌, ◌==◌, Bool, true, ◌&&◌, nat_le, List, [], ◌∷◌, length, if◌then◌else◌}
+use Rattle.std.specs.Prelude.{◌≡◌, ℕ, ◌+◌, ◌==◌, Bool, true, ◌&&◌, nat_le, List, [], ◌∷◌, length, None, if◌then◌else◌}
 use Rattle.std.specs.List.{list_all}
 use Rattle.std.specs.Str.{bytes_eq}
 use Rattle.serde_json.specs.Data.{Data, null, boolean, number, string, array, object, Items, no_items, item, Members, no_members, member}
 use Rattle.serde_json.specs.Events.{items_len}
 use Rattle.serde_json.specs.View.{items_of}
-use Rattle.mesh_doc.specs.Faults.{Check, Faults, none, joined, hiding, fault, unless}
+use Rattle.mesh_doc.specs.Faults.{Check, Faults, first, none, joined, hiding, fault, unless}
 use Rattle.mesh_doc.specs.Known.{is_known, unknown_in}
 use Rattle.mesh_doc.specs.Places.{Steps, at_index, at_key}
 use Rattle.mesh_doc.specs.declared.reason.Reason.TheVariants as reason
@@ -15,7 +15,7 @@ use Rattle.mesh_tree.specs.declared.tree.Node.TheVariants as Node
 use Rattle.mesh_tree.specs.declared.tree.Tree.{Tree, fold-Tree}
 use Rattle.mesh_tree.specs.Tree.{tree_of}
 use Rattle.envoy_types.specs.SmallForms.{is_within, most_entries, true_faults}
-use Rattle.envoy_types.specs.WrittenFields.{sole_field}
+use Rattle.envoy_types.specs.WrittenFields.{are_different, sole_field}
 use Rattle.envoy_types.specs.declared.keys.TheConstants.{ANY}
 
 -- What a kind of trees is told by: the names of its alternatives, and its leaves, each by the name of its alternative and the
@@ -187,3 +187,20 @@ tree_list_in form d = trees_in form d
 
 unfoldable pub tree_list_is_printable : {L : Type 0} → TreeForm L → List (Tree L) → Bool
 tree_list_is_printable form trees = is_within 1 most_entries (length trees) && list_all (tree_is_printable form) trees
+
+-- ---- what a kind of leaves promises
+
+-- the alternatives have names of their own
+abbrev pub HasOwnNames : {L : Type 0} → TreeForm L → Type 0
+HasOwnNames form = are_different (known_names form) ≡ true
+
+-- a leaf is written as an object with one field, whose name is that of a leaf
+abbrev pub WritesLeaf : {L : Type 0} → TreeForm L → L → Type 0
+WritesLeaf form leaf =
+    (key : List ℕ) × (d : Data) × (form.leaf_written leaf ≡ object (member key d no_members)) × (is_known form.leaf_names key ≡ true)
+
+-- what is written of a leaf has no fault wherever it stands, and means the leaf
+abbrev pub ReadsBack : {L : Type 0} → TreeForm L → L → Type 0
+ReadsBack form leaf =
+    (key : List ℕ) (d : Data) → form.leaf_written leaf ≡ object (member key d no_members)
+    → ((at : Steps) → first (form.leaf_faults key d at) ≡ None) × (form.leaf_in key d ≡ leaf)

@@ -14,7 +14,7 @@ use Rattle.mesh_doc.specs.Known.{is_known, unknown_in}
 use Rattle.mesh_doc.specs.Places.{Steps, at_index, at_key}
 use Rattle.mesh_tree.specs.declared.tree.Node.{Node, Node-F, fold-roll-Node, map-Node, roll-Node}
 use Rattle.mesh_tree.specs.declared.tree.Node.TheVariants as Node
-use Rattle.mesh_tree.specs.declared.tree.Tree.{Tree, fold-roll-Tree, ind-Tree, roll-Tree}
+use Rattle.mesh_tree.specs.declared.tree.Tree.{Tree, Tree-F, fold-roll-Tree, ind-Tree, roll-Tree}
 use Rattle.mesh_tree.specs.Tree.{tree_of}
 use Rattle.mesh_tree.proofs.FoldLemmas.{folded, opened}
 use Rattle.envoy_types.specs.SmallForms.{is_within, most_entries, true_faults}
@@ -226,3 +226,96 @@ module _ {L : Type 0} (form : TreeForm L) (own : HasOwnNames form) where
         λ at. rw (known, same) (trees-clean trees back few printable (at_key form.parts_name at)),
         rw same (each-back trees back printable),
       )
+
+-- ---- the whole tree
+
+-- a fold over a tree whose first node is opened
+fold-opened : {L A : Type 0} (step : Node-F L A A → A) (x : Node-F L (Node L) (Tree L))
+    → folded step (tree_of (roll-Node L x)) ≡ step (opened step x)
+fold-opened {L} {A} step x =
+    fold-roll-Tree L A A step (λ t. t.node) (record { node = roll-Node L x }) ∙ fold-roll-Node L A A step (λ t. t.node) x
+
+module _ {L : Type 0} (form : TreeForm L) (own : HasOwnNames form) (writes : (leaf : L) → WritesLeaf form leaf)
+    (reads : (leaf : L) → form.leaf_is_printable leaf ≡ true → ReadsBack form leaf) where
+  abbrev NodeBack : Node L → Type 0
+  NodeBack node = TreeBack form own (tree_of node)
+
+  abbrev KnownTree : Type 0
+  KnownTree = (tree : Tree L) × TreeBack form own tree
+
+  abbrev KnownNode : Type 0
+  KnownNode = (node : Node L) × NodeBack node
+
+  all-known : (trees : List KnownTree) → AllBack form own (map (λ e. e.0) trees)
+  all-known [] = tt
+  all-known (tree ∷ trees) = (tree.1, all-known trees)
+
+  -- from the node as it is opened
+  from-opened : (x : Node-F L (Node L) (Tree L))
+      → (node_is_printable form (opened (node_is_printable form) x) ≡ true
+      → Means form own (node_written form (opened (node_written form) x)) (tree_of (roll-Node L x)))
+      → NodeBack (roll-Node L x)
+  from-opened x means printable =
+      subst (λ d. Means form own d (tree_of (roll-Node L x))) (sym (fold-opened (node_written form) x))
+      (means (sym (fold-opened (node_is_printable form) x) ∙ printable))
+
+  -- the list of an And or an Or
+  abbrev parts_written : List (Tree L) → Data
+  parts_written trees = sole_field form.parts_name (array (items_of (map (tree_written form) trees)))
+
+  list-mean : (trees : List (Tree L)) → AllBack form own trees
+      → (is_within 1 most_entries (length (map (tree_is_printable form) trees)) && list_all (λ printable. printable) (map (tree_is_printable form) trees)) ≡ true
+      → PartsMean form own (parts_written trees) trees
+  list-mean trees back printable =
+      let folds = map (tree_is_printable form) trees in
+      let both = and_parts (is_within 1 most_entries (length folds)) (list_all (λ b. b) folds) printable in
+      let few : is_within 1 most_entries (length trees) ≡ true =
+      ap (is_within 1 most_entries) (sym (length-map (tree_is_printable form) trees)) ∙ both.0 in
+      let each : list_all (tree_is_printable form) trees ≡ true =
+      sym (list_all-map (λ b. b) (tree_is_printable form) trees) ∙ both.1 in
+      parts-mean form own trees back few each
+
+  and-back : (parts : List (Tree L)) → AllBack form own parts → NodeBack (roll-Node L (Node-F.And parts))
+  and-back parts back = from-opened (Node-F.And parts) (λ printable.
+      subst (λ n. Means form own (node_written form (Node-F.And (map (tree_written form) parts))) (tree_of n)) (sym (Node.rolls-And parts))
+      (and-means form own (parts_written parts) parts (list-mean parts back printable)))
+
+  or-back : (parts : List (Tree L)) → AllBack form own parts → NodeBack (roll-Node L (Node-F.Or parts))
+  or-back parts back = from-opened (Node-F.Or parts) (λ printable.
+      subst (λ n. Means form own (node_written form (Node-F.Or (map (tree_written form) parts))) (tree_of n)) (sym (Node.rolls-Or parts))
+      (or-means form own (parts_written parts) parts (list-mean parts back printable)))
+
+  -- one node whose parts are known
+  level : (y : Node-F L KnownNode KnownTree)
+      → NodeBack (roll-Node L (map-Node L KnownNode KnownTree (Node L) (Tree L) (λ e. e.0) (λ e. e.0) y))
+  level Node-F.Any = from-opened Node-F.Any (λ printable.
+      subst (λ n. Means form own (sole_field ANY.now (boolean true)) (tree_of n)) (sym Node.rolls-Any) (any-means form own))
+  level (Node-F.Leaf leaf) = from-opened (Node-F.Leaf leaf) (λ printable.
+      subst (λ n. Means form own (form.leaf_written leaf) (tree_of n)) (sym (Node.rolls-Leaf leaf))
+      (leaf-means form own leaf (writes leaf) (reads leaf printable)))
+  level (Node-F.And trees) = and-back (map (λ e. e.0) trees) (all-known trees)
+  level (Node-F.Or trees) = or-back (map (λ e. e.0) trees) (all-known trees)
+  level (Node-F.Not tree) = from-opened (Node-F.Not tree.0) (λ printable.
+      subst (λ n. Means form own (sole_field form.not_name (tree_written form tree.0)) (tree_of n)) (sym (Node.rolls-Not tree.0))
+      (not-means form own (tree_written form tree.0) tree.0 (tree.1 printable)))
+
+  pub tree-back : (tree : Tree L) → tree_is_printable form tree ≡ true
+      → ((at : Steps) → first (tree_faults form (tree_written form tree) at) ≡ None) × (tree_in form (tree_written form tree) ≡ tree)
+  tree-back =
+      ind-Tree L NodeBack (TreeBack form own)
+      (λ x y is. subst (λ (z : Node-F L (Node L) (Tree L)). NodeBack (roll-Node L z)) is (level y))
+      (λ x y is. subst (λ (z : Tree-F L (Node L) (Tree L)). TreeBack form own (roll-Tree L z)) is (y.node.1))
+
+  all-back : (trees : List (Tree L)) → AllBack form own trees
+  all-back [] = tt
+  all-back (tree ∷ trees) = (tree-back tree, all-back trees)
+
+  pub tree-list-back : (trees : List (Tree L)) → tree_list_is_printable form trees ≡ true
+      → Back (tree_list_faults form) (tree_list_in form) (list_written (tree_written form) trees) trees
+  unfolding tree_list_faults tree_list_in tree_list_is_printable list_written
+  tree-list-back trees printable =
+      let both = and_parts (is_within 1 most_entries (length trees)) (list_all (tree_is_printable form) trees) printable in
+      record {
+        passes = record { clean = trees-clean form own trees (all-back trees) both.0 both.1 };
+        back = each-back form own trees (all-back trees) both.1;
+      }

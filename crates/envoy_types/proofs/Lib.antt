@@ -1,3 +1,9 @@
 pub mod FieldsBack
+pub mod HeadersBack
+pub mod LeavesBack
 pub mod PartsBack
+pub mod PermissionsBack
+pub mod PrincipalsBack
+pub mod StringsBack
+pub mod ValuesBack
 pub mod WorkedRules

@@ -1,3 +1,4 @@
+pub mod BlocksBack
 pub mod FieldsBack
 pub mod HeadersBack
 pub mod LeavesBack
@@ -5,5 +6,6 @@ pub mod PartsBack
 pub mod PermissionsBack
 pub mod PrincipalsBack
 pub mod StringsBack
+pub mod TreesBack
 pub mod ValuesBack
 pub mod WorkedRules

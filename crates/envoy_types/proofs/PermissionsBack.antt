@@ -12,7 +12,6 @@ use Rattle.envoy_types.proofs.HeadersBack.{header-back}
 use Rattle.envoy_types.proofs.LeavesBack.{as-leaf, leaf-reads-back, leaf-writes}
 use Rattle.envoy_types.proofs.PartsBack.{Back, fixed-passes, named-back, number-within-back, tested-back}
 use Rattle.envoy_types.proofs.StringsBack.{string-back}
-use Rattle.envoy_types.specs.BlockForms.{block_written}
 use Rattle.envoy_types.specs.PermissionForms.{permission_form, permission_leaf_faults, permission_leaf_in, permission_leaf_is_printable}
 use Rattle.envoy_types.specs.PermissionForms.{permission_leaf_written, template_config_faults, uri_template_faults}
 use Rattle.envoy_types.specs.PermissionForms.{uri_template_in, uri_template_written, url_path_faults}
@@ -42,11 +41,10 @@ config-back : (uri : List ℕ) → is_uri uri ≡ true
     (config_written URI_TEMPLATE_TYPE.now (field PATH_TEMPLATE.now (string uri) ∷ [])) uri
 unfolding template_config_faults required_written required_written_in unknown_faults object_faults is_known
 config-back uri h =
+    let type = fixed-passes URI_TEMPLATE_TYPE.now in
     let text = tested-back is_uri reason.BadForm uri h in
     record {
-      passes = record {
-        clean = λ at. rw ((fixed-passes URI_TEMPLATE_TYPE.now).clean (at_key TYPE.now at), text.passes.clean (at_key PATH_TEMPLATE.now at)) refl;
-      };
+      passes = record { clean = λ at. rw (type.clean (at_key TYPE.now at), text.passes.clean (at_key PATH_TEMPLATE.now at)) refl };
       back = text.back;
     }
 
@@ -62,7 +60,8 @@ unfolding permission_leaf_faults permission_leaf_in permission_leaf_written perm
 permission-reads-back (leaf.DestinationIp block) h =
     leaf-reads-back permission_form (leaf.DestinationIp block) DESTINATION_IP.now _ refl (as-leaf leaf.DestinationIp (block-back block h))
 permission-reads-back (leaf.DestinationPort port) h =
-    leaf-reads-back permission_form (leaf.DestinationPort port) DESTINATION_PORT.now _ refl (as-leaf leaf.DestinationPort (number-within-back 0 65535 port h))
+    leaf-reads-back permission_form (leaf.DestinationPort port) DESTINATION_PORT.now _ refl
+    (as-leaf leaf.DestinationPort (number-within-back 0 65535 port h))
 permission-reads-back (leaf.Header m) h =
     leaf-reads-back permission_form (leaf.Header m) HEADER.now _ refl (as-leaf leaf.Header (header-back m h))
 permission-reads-back (leaf.ServerName m) h =
@@ -70,7 +69,8 @@ permission-reads-back (leaf.ServerName m) h =
 permission-reads-back (leaf.UriTemplate uri) h =
     leaf-reads-back permission_form (leaf.UriTemplate uri) URI_TEMPLATE.now _ refl (as-leaf leaf.UriTemplate (template-back uri h))
 permission-reads-back (leaf.UrlPath m) h =
-    leaf-reads-back permission_form (leaf.UrlPath m) URL_PATH.now _ refl (as-leaf leaf.UrlPath (url-path-back (string_written m) m (string-back m h)))
+    leaf-reads-back permission_form (leaf.UrlPath m) URL_PATH.now _ refl
+    (as-leaf leaf.UrlPath (url-path-back (string_written m) m (string-back m h)))
 
 pub permission-writes : (l : PermissionLeaf) → WritesLeaf permission_form l
 unfolding permission_leaf_written is_known

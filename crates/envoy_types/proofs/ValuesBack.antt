@@ -20,7 +20,8 @@ use Rattle.envoy_types.specs.SmallForms.{fixed_faults, is_within, list_in_turn_t
 use Rattle.envoy_types.specs.StringForms.{string_faults, string_in, string_written}
 use Rattle.envoy_types.specs.ValueForms.{list_match_faults, list_match_in, list_match_written, metadata_faults, metadata_is_printable}
 use Rattle.envoy_types.specs.ValueForms.{metadata_written, one_of_faults, one_of_in, path_faults, path_in, path_segment_faults, path_written}
-use Rattle.envoy_types.specs.ValueForms.{segment_faults, segment_in, segment_written, value_faults, value_in, value_is_printable, value_written}
+use Rattle.envoy_types.specs.ValueForms.{segment_faults, segment_in, segment_written}
+use Rattle.envoy_types.specs.ValueForms.{value_faults, value_in, value_is_printable, value_written}
 use Rattle.envoy_types.specs.WrittenFields.{list_written, sole_field}
 use Rattle.envoy_types.specs.declared.fixed.TheConstants.{PAYLOAD}
 use Rattle.envoy_types.specs.declared.keys.TheConstants.{FILTER, KEY, LIST_MATCH, ONE_OF, PATH, PRESENT_MATCH, STRING_MATCH, VALUE}

@@ -1,3 +1,4 @@
 pub mod FieldsBack
+pub mod MapsBack
 pub mod PartsBack
 pub mod WorkedRules

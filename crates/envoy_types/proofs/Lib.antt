@@ -1,4 +1,5 @@
 pub mod FieldsBack
+pub mod JwtBack
 pub mod MapsBack
 pub mod PartsBack
 pub mod ProvidersBack

@@ -315,15 +315,16 @@ module _ (jwt : Authentication) (rise : names_rise name-of jwt.providers ≡ tru
       given-passes (λ d. required_written RULES.now (rules-faults (providers_in d))) config
       (subst (λ ps. Passes (required_written RULES.now (rules-faults ps)) config) (sym providers-read) these)
 
+  providers-pass : Passes (required_written PROVIDERS.now (map_of provider_faults)) config
+  providers-pass = required-passes PROVIDERS.now (map_of provider_faults) config providers-written providers-found all-providers.passes
+
   config-back : Back jwt_config_faults jwt_config_in config jwt
   unfolding jwt_config_faults jwt_config_in is_known
-  config-back =
-      let providers-pass = required-passes PROVIDERS.now (map_of provider_faults) config providers-written providers-found all-providers.passes in
-      record {
-        passes = strict-object (TYPE.now ∷ PROVIDERS.now ∷ RULES.now ∷ []) _ config-fields refl
-            (both (type-passes JWT_TYPE.now own-fields refl) (both providers-pass rules-pass));
-        back = rw (providers-read, required-back RULES.now (list_in check_in) config rules-written rules-found, all-rules.back) refl;
-      }
+  config-back = record {
+    passes = strict-object (TYPE.now ∷ PROVIDERS.now ∷ RULES.now ∷ []) _ config-fields refl
+        (both (type-passes JWT_TYPE.now own-fields refl) (both providers-pass rules-pass));
+    back = rw (providers-read, required-back RULES.now (list_in check_in) config rules-written rules-found, all-rules.back) refl;
+  }
 
 -- a printable token filter is read back
 pub jwt-back : (jwt : Authentication) → jwt_is_printable jwt ≡ true → Back jwt_faults jwt_in (jwt_written jwt) jwt

@@ -1,10 +1,13 @@
 pub mod BlocksBack
 pub mod FieldsBack
 pub mod HeadersBack
+pub mod JwtBack
 pub mod LeavesBack
+pub mod MapsBack
 pub mod PartsBack
 pub mod PermissionsBack
 pub mod PrincipalsBack
+pub mod ProvidersBack
 pub mod StringsBack
 pub mod TreesBack
 pub mod ValuesBack

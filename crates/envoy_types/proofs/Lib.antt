@@ -1,2 +1,3 @@
+pub mod EndingsBack
 pub mod FieldsBack
 pub mod WorkedRules

@@ -1,3 +1,4 @@
 pub mod EndingsBack
 pub mod FieldsBack
+pub mod PartsBack
 pub mod WorkedRules

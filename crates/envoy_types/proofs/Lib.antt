@@ -1,4 +1,6 @@
 pub mod EndingsBack
 pub mod FieldsBack
+pub mod ObjectsBack
 pub mod PartsBack
+pub mod SocketsBack
 pub mod WorkedRules

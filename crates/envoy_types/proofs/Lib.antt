@@ -1,7 +1,14 @@
+pub mod AuthzBack
 pub mod EndingsBack
 pub mod FieldsBack
+pub mod HeadersBack
+pub mod LeavesBack
 pub mod MapsBack
 pub mod ObjectsBack
 pub mod PartsBack
+pub mod PermissionsBack
+pub mod PrincipalsBack
 pub mod SocketsBack
+pub mod StringsBack
+pub mod ValuesBack
 pub mod WorkedRules

@@ -1,4 +1,5 @@
 pub mod AuthzBack
+pub mod BlocksBack
 pub mod EndingsBack
 pub mod FieldsBack
 pub mod HeadersBack
@@ -10,5 +11,6 @@ pub mod PermissionsBack
 pub mod PrincipalsBack
 pub mod SocketsBack
 pub mod StringsBack
+pub mod TreesBack
 pub mod ValuesBack
 pub mod WorkedRules

@@ -9,6 +9,7 @@ pub mod ObjectsBack
 pub mod PartsBack
 pub mod PermissionsBack
 pub mod PrincipalsBack
+pub mod RbacBack
 pub mod SocketsBack
 pub mod StringsBack
 pub mod TreesBack

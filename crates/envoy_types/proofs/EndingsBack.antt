@@ -1,5 +1,5 @@
 -- Lists whose last entry has a form of its own: what is written of the entries and of the last one passes, and means them.
-use Rattle.std.proofs.Common.{◌≡◌, ℕ, ◌+◌, ◌-◌, Bool, true, List, [], ◌∷◌, ◌++◌, map, None, refl, sym, ap, ap₂, ◌∙◌}
+use Rattle.std.proofs.Common.{◌≡◌, ℕ, ◌+◌, ◌-◌, Bool, true, List, [], ◌∷◌, ◌++◌, map, length, arith, None, refl, sym, ap, ap₂, ◌∙◌}
 use Rattle.std.proofs.lemmas.Bool.{and_parts}
 use Rattle.std.specs.List.{list_all}
 use Rattle.serde_json.specs.Data.{Data, array, Items, no_items, item}
@@ -23,6 +23,10 @@ pub last-ending : (ds : List Data) (e : Data) → last_of (items (ds ++ e ∷ []
 last-ending [] e = refl
 last-ending (d ∷ []) e = refl
 last-ending (d ∷ (d' ∷ ds)) e = last-ending (d' ∷ ds) e
+
+pub ending-length : {A : Type 0} (written : A → Data) (xs : List A) (e : Data) → length (map written xs ++ e ∷ []) ≡ length xs + 1
+ending-length written [] e = refl
+ending-length written (x ∷ xs) e = omega (arith, ending-length written xs e)
 
 -- ---- entries that are written
 

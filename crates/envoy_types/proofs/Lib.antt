@@ -2,6 +2,7 @@ pub mod AuthzBack
 pub mod BlocksBack
 pub mod EndingsBack
 pub mod FieldsBack
+pub mod FiltersBack
 pub mod HeadersBack
 pub mod LeavesBack
 pub mod MapsBack

@@ -4,12 +4,14 @@ pub mod EndingsBack
 pub mod FieldsBack
 pub mod FiltersBack
 pub mod HeadersBack
+pub mod JwtBack
 pub mod LeavesBack
 pub mod MapsBack
 pub mod ObjectsBack
 pub mod PartsBack
 pub mod PermissionsBack
 pub mod PrincipalsBack
+pub mod ProvidersBack
 pub mod RbacBack
 pub mod SocketsBack
 pub mod StringsBack

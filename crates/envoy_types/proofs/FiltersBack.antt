@@ -150,3 +150,141 @@ http-filters-back filters h =
       back = front-back http_filter_written http_filter_is_printable http_filter_in (λ x p. (http-filter-back x p).back) filters few.1
           router_written;
     }
+
+-- ---- routes
+
+route-passes : (name : List ℕ) → Passes (route_faults name) (route_written name)
+unfolding route_faults route_written route_match_faults route_action_faults is_known
+route-passes name =
+    let all : List Field = field PREFIX.now (string ALL_PATHS.now) ∷ [] in
+    let to : List Field = field CLUSTER.now (string name) ∷ [] in
+    let fs : List Field = field MATCH.now (object_of all) ∷ field ROUTE.now (object_of to) ∷ [] in
+    strict-object (MATCH.now ∷ ROUTE.now ∷ []) _ fs refl
+        (both
+        (required-at fs refl MATCH.now _ _ refl (strict-object (PREFIX.now ∷ []) _ all refl
+        (required-at all refl PREFIX.now _ _ refl (fixed-passes ALL_PATHS.now))))
+        (required-at fs refl ROUTE.now _ _ refl (strict-object (CLUSTER.now ∷ []) _ to refl
+        (required-at to refl CLUSTER.now _ _ refl (fixed-passes name)))))
+
+virtual-host-passes : (name : List ℕ) → Passes (virtual_host_faults name) (virtual_host_written name)
+unfolding virtual_host_faults virtual_host_written is_known
+virtual-host-passes name =
+    let all : Data = string ALL_DOMAINS.now in
+    let fs : List Field =
+        field DOMAINS.now (array (items (all ∷ [])))
+        ∷ field NAME.now (string INBOUND_HOST.now)
+        ∷ field ROUTES.now (array (items (route_written name ∷ [])))
+        ∷ [] in
+    strict-object (DOMAINS.now ∷ NAME.now ∷ ROUTES.now ∷ []) _ fs refl
+        (both (required-at fs refl DOMAINS.now _ _ refl (sole-back _ _ all all (passing (fixed-passes ALL_DOMAINS.now))).passes)
+        (both (required-at fs refl NAME.now _ _ refl (fixed-passes INBOUND_HOST.now))
+        (required-at fs refl ROUTES.now _ _ refl
+        (sole-back _ _ (route_written name) (route_written name) (passing (route-passes name))).passes)))
+
+-- routes that were asked under the name that is read
+host-passes : (read name : List ℕ) → read ≡ name
+    → Passes (sole_list (virtual_host_faults read)) (array (items (virtual_host_written name ∷ [])))
+host-passes read name e = subst (λ n. Passes (sole_list (virtual_host_faults n)) (array (items (virtual_host_written name ∷ [])))) (sym e)
+    (sole-back (virtual_host_faults name) _ (virtual_host_written name) (virtual_host_written name) (passing (virtual-host-passes name))).passes
+
+route-config-back : (name : List ℕ)
+    → Back route_config_faults (required_written_in NAME.now text_in) (route_config_written name) name
+unfolding route_config_faults route_config_written is_known
+route-config-back name =
+    let fs : List Field = field NAME.now (string name) ∷ field VIRTUAL_HOSTS.now (array (items (virtual_host_written name ∷ []))) ∷ [] in
+    let named = required-field fs refl NAME.now _ text_in _ name refl (text-back name) in
+    record {
+      passes = strict-object (NAME.now ∷ VIRTUAL_HOSTS.now ∷ []) _ fs refl
+          (both named.passes
+          (given-passes (λ d. required_written VIRTUAL_HOSTS.now (sole_list (virtual_host_faults (required_written_in NAME.now text_in d))))
+          (object_of fs) (required-at fs refl VIRTUAL_HOSTS.now _ _ refl (host-passes _ name named.back))));
+      back = named.back;
+    }
+
+-- ---- the connection manager
+
+pub manager-back : (filters : List HttpFilter) (cluster : List ℕ) → filters_are_printable http_filter_is_printable filters ≡ true
+    → Back manager_faults manager_in (manager_written filters cluster) (Http filters cluster)
+unfolding manager_config_faults manager_config_in manager_in manager_written route_name_in is_known
+manager-back filters cluster h =
+    let fs : List Field =
+        field TYPE.now (string HTTP_MANAGER_TYPE.now)
+        ∷ field HTTP_FILTERS.now (http_filters_written filters)
+        ∷ field ROUTE_CONFIG.now (route_config_written cluster)
+        ∷ field STAT_PREFIX.now (string cluster)
+        ∷ [] in
+    let all = required-field fs refl HTTP_FILTERS.now _ (front_in http_filter_in) _ filters refl (http-filters-back filters h) in
+    let route = required-field fs refl ROUTE_CONFIG.now _ (required_written_in NAME.now text_in) _ cluster refl (route-config-back cluster) in
+    named-back HTTP_MANAGER_NAME.now _ manager_config_in (object_of fs) (Http filters cluster) (record {
+      passes = strict-object (TYPE.now ∷ HTTP_FILTERS.now ∷ ROUTE_CONFIG.now ∷ STAT_PREFIX.now ∷ []) _ fs refl
+          (both (required-at fs refl TYPE.now _ _ refl (fixed-passes HTTP_MANAGER_TYPE.now))
+          (both all.passes
+          (both route.passes
+          (given-passes (λ d. required_written STAT_PREFIX.now (fixed_faults (route_name_in d))) (object_of fs)
+          (required-at fs refl STAT_PREFIX.now _ _ refl (same-passes _ cluster route.back))))));
+      back = ap₂ (λ f c. Http f c) all.back route.back;
+    })
+
+-- ---- what a chain does
+
+proxy-is : (cluster : List ℕ) → is_named TCP_PROXY_NAME.now (proxy_written cluster) ≡ true
+unfolding proxy_written
+proxy-is cluster = named-is TCP_PROXY_NAME.now TCP_PROXY_NAME.now _
+
+tcp-are : (filters : List NetworkFilter) (cluster : List ℕ)
+    → are_tcp_filters (items (map network_filter_written filters ++ proxy_written cluster ∷ [])) ≡ true
+unfolding are_tcp_filters
+tcp-are filters cluster =
+    rw (front-ending (map network_filter_written filters) (proxy_written cluster),
+        last-ending (map network_filter_written filters) (proxy_written cluster),
+        items-pass network_filter_written network_filter_is_printable is_network_filter network-kind filters) (proxy-is cluster)
+
+-- a list that ends with the proxy is no connection manager
+no-manager : (ds : List Data) (cluster : List ℕ) → is_manager (items (ds ++ proxy_written cluster ∷ [])) ≡ false
+unfolding proxy_written
+no-manager [] cluster = named-is TCP_PROXY_NAME.now HTTP_MANAGER_NAME.now _
+no-manager (d ∷ []) cluster = refl
+no-manager (d ∷ (e ∷ ds)) cluster = refl
+
+manager-is : (filters : List HttpFilter) (cluster : List ℕ) → is_named HTTP_MANAGER_NAME.now (manager_written filters cluster) ≡ true
+unfolding manager_written
+manager-is filters cluster = named-is HTTP_MANAGER_NAME.now HTTP_MANAGER_NAME.now _
+
+tcp-back : (filters : List NetworkFilter) (cluster : List ℕ) → filters_are_printable network_filter_is_printable filters ≡ true
+    → Back body_faults body_in (array (items (map network_filter_written filters ++ proxy_written cluster ∷ []))) (Tcp filters cluster)
+unfolding body_faults body_in body_entries_faults
+tcp-back filters cluster h =
+    let d : Data = array (items (map network_filter_written filters ++ proxy_written cluster ∷ [])) in
+    let no : is_manager (items (map network_filter_written filters ++ proxy_written cluster ∷ [])) ≡ false =
+    no-manager (map network_filter_written filters) cluster in
+    let few = and_parts (nat_le (length filters + 1) most_entries) _ h in
+    let ends = ending-passes network_filter_written network_filter_is_printable network_filter_faults proxy_faults
+        (λ x p. (network-filter-back x p).passes) filters few.1 (proxy_written cluster) (proxy-back cluster).passes in
+    record {
+      passes = behind (behind (few-pass network_filter_written filters (proxy_written cluster) few.0)
+          (demanded (λ v. is_manager (items_of v) || are_tcp_filters (items_of v)) reason.BadForm d (rw (no, tcp-are filters cluster) refl)))
+          (record { clean = λ at. rw no (ends.clean at) });
+      back = rw no (ap₂ (λ f c. Tcp f c)
+          (front-back network_filter_written network_filter_is_printable network_filter_in (λ x p. (network-filter-back x p).back) filters few.1
+          (proxy_written cluster))
+          (last-back proxy_in (map network_filter_written filters) (proxy_written cluster) ∙ (proxy-back cluster).back));
+    }
+
+http-back : (filters : List HttpFilter) (cluster : List ℕ) → filters_are_printable http_filter_is_printable filters ≡ true
+    → Back body_faults body_in (array (items (manager_written filters cluster ∷ []))) (Http filters cluster)
+unfolding body_faults body_in body_entries_faults last_in
+http-back filters cluster h =
+    let d : Data = array (items (manager_written filters cluster ∷ [])) in
+    let is = manager-is filters cluster in
+    let sole = sole-back manager_faults manager_in (manager_written filters cluster) (Http filters cluster) (manager-back filters cluster h) in
+    record {
+      passes = behind (behind (list-passes most_entries (manager_written filters cluster ∷ []) refl)
+          (demanded (λ v. is_manager (items_of v) || are_tcp_filters (items_of v)) reason.BadForm d (rw is refl)))
+          (record { clean = λ at. rw is (sole.passes.clean at) });
+      back = rw is (manager-back filters cluster h).back;
+    }
+
+pub body-back : (body : ChainBody) → body_is_printable body ≡ true → Back body_faults body_in (body_written body) body
+unfolding body_is_printable body_written
+body-back (Tcp filters cluster) h = tcp-back filters cluster h
+body-back (Http filters cluster) h = http-back filters cluster h

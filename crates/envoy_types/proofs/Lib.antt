@@ -1,11 +1,13 @@
 pub mod AuthzBack
 pub mod BlocksBack
+pub mod ChainsBack
 pub mod EndingsBack
 pub mod FieldsBack
 pub mod FiltersBack
 pub mod HeadersBack
 pub mod JwtBack
 pub mod LeavesBack
+pub mod ListenerBack
 pub mod MapsBack
 pub mod ObjectsBack
 pub mod PartsBack

@@ -1,14 +1,14 @@
 -- A printable address block is written as a value that has no fault and means that block.
-use Rattle.std.proofs.Common.{◌≡◌, ◌<◌, ◌^◌, nat_le, true, List, [], ◌∷◌, Option, Some, is_some, unwrap_or, refl, sym, ap, subst, ◌∙◌}
+use Rattle.std.proofs.Common.{◌≡◌, ◌^◌, true, List, [], ◌∷◌, Some, unwrap_or, refl, sym, ap, subst, ◌∙◌}
 use Rattle.std.proofs.lemmas.Bool.{ltb-true}
 use Rattle.std.specs.List.{list_all}
-use Rattle.serde_json.specs.Data.{Data, string}
+use Rattle.serde_json.specs.Data.{string}
 use Rattle.serde_json.specs.Find.{get}
 use Rattle.mesh_doc.specs.Fields.{required_written, required_written_in}
 use Rattle.mesh_doc.specs.Kinds.{number_faults, number_in, text_faults, text_in}
 use Rattle.mesh_doc.specs.Known.{is_known}
 use Rattle.mesh_doc.specs.Tested.{tested}
-use Rattle.mesh_net.specs.Address.{ip_of, width}
+use Rattle.mesh_net.specs.Address.{ip_of}
 use Rattle.mesh_net.specs.Cidr.{block_with}
 use Rattle.mesh_net.specs.Written.{ip_text}
 use Rattle.mesh_net.specs.declared.address.IpAddr.{IpAddr}
@@ -19,7 +19,8 @@ use Rattle.mesh_net.proofs.WrittenLemmas.{v4_back, v6_back}
 use Rattle.envoy_types.specs.SmallForms.{given}
 use Rattle.envoy_types.specs.WrittenFields.{Field, field, number_written, object_of}
 use Rattle.envoy_types.specs.declared.keys.TheConstants.{ADDRESS_PREFIX, PREFIX_LEN}
-use Rattle.envoy_types.specs.BlockForms.{address_in, address_prefix_faults, any_block, block_faults, block_in, block_is_printable, block_written, is_address, prefix_len_faults}
+use Rattle.envoy_types.specs.BlockForms.{address_in, address_prefix_faults, any_block, block_faults, block_in}
+use Rattle.envoy_types.specs.BlockForms.{block_is_printable, block_written, is_address, prefix_len_faults}
 use Rattle.envoy_types.proofs.FieldsBack.{Passes, both, get-object, required-back, required-passes, strict-object}
 use Rattle.envoy_types.proofs.PartsBack.{Back}
 

@@ -1,9 +1,15 @@
 -- A leaf that is written as one field keeps the promises of its kind of leaves.
-use Rattle.std.proofs.Common.{◌≡◌, ℕ, true, List, refl}
+use Rattle.std.proofs.Common.{◌≡◌, ℕ, true, List, ap}
 use Rattle.serde_json.specs.Data.{Data, object, no_members, member}
+use Rattle.mesh_doc.specs.Faults.{Check}
 use Rattle.mesh_doc.specs.Known.{is_known}
 use Rattle.envoy_types.proofs.PartsBack.{Back}
 use Rattle.envoy_types.specs.TreeForms.{ReadsBack, TreeForm, WritesLeaf}
+
+-- a leaf means no more than the value of its field
+pub as-leaf : {A L : Type 0} (leaf : A → L) {f : Check} {value : Data → A} {d : Data} {a : A} → Back f value d a
+    → Back f (λ v. leaf (value v)) d (leaf a)
+as-leaf leaf known = record { passes = known.passes; back = ap leaf known.back }
 
 -- the field alone tells the leaf
 pub leaf-reads-back : {L : Type 0} (form : TreeForm L) (leaf : L) (name : List ℕ) (value : Data)

@@ -1,5 +1,5 @@
 -- A leaf of permissions that is written is read back.
-use Rattle.std.proofs.Common.{◌≡◌, ℕ, Bool, true, List, [], ◌∷◌, refl, ap, ◌∙◌}
+use Rattle.std.proofs.Common.{◌≡◌, ℕ, true, List, [], ◌∷◌, refl}
 use Rattle.serde_json.specs.Data.{Data, string}
 use Rattle.mesh_doc.specs.Fields.{required_written, required_written_in}
 use Rattle.mesh_doc.specs.Kinds.{object_faults, text_in}
@@ -7,19 +7,17 @@ use Rattle.mesh_doc.specs.Known.{is_known, unknown_faults}
 use Rattle.mesh_doc.specs.Places.{at_key}
 use Rattle.mesh_doc.specs.declared.reason.Reason.TheVariants as reason
 use Rattle.mesh_policy.specs.Template.{is_uri}
-use Rattle.mesh_net.specs.declared.cidr.Cidr.{Cidr}
-use Rattle.envoy_types.proofs.FieldsBack.{both, get-object, required-back, required-passes, strict-object}
+use Rattle.envoy_types.proofs.BlocksBack.{block-back}
 use Rattle.envoy_types.proofs.HeadersBack.{header-back}
-use Rattle.envoy_types.proofs.LeavesBack.{leaf-reads-back, leaf-writes}
-use Rattle.envoy_types.proofs.PartsBack.{Back, named-back, number-within-back, tested-back, type-passes}
+use Rattle.envoy_types.proofs.LeavesBack.{as-leaf, leaf-reads-back, leaf-writes}
+use Rattle.envoy_types.proofs.PartsBack.{Back, fixed-passes, named-back, number-within-back, tested-back}
 use Rattle.envoy_types.proofs.StringsBack.{string-back}
-use Rattle.envoy_types.specs.BlockForms.{block_faults, block_in, block_is_printable, block_written}
 use Rattle.envoy_types.specs.PermissionForms.{permission_form, permission_leaf_faults, permission_leaf_in, permission_leaf_is_printable}
-use Rattle.envoy_types.specs.PermissionForms.{permission_leaf_written, template_config_faults, template_faults, uri_template_faults}
+use Rattle.envoy_types.specs.PermissionForms.{permission_leaf_written, template_config_faults, uri_template_faults}
 use Rattle.envoy_types.specs.PermissionForms.{uri_template_in, uri_template_written, url_path_faults}
 use Rattle.envoy_types.specs.StringForms.{string_faults, string_in, string_written}
 use Rattle.envoy_types.specs.TreeForms.{HasOwnNames, ReadsBack, WritesLeaf}
-use Rattle.envoy_types.specs.WrittenFields.{Field, config_written, field, object_of, sole_field}
+use Rattle.envoy_types.specs.WrittenFields.{config_written, field, sole_field}
 use Rattle.envoy_types.specs.declared.keys.TheConstants.{DESTINATION_IP, DESTINATION_PORT, HEADER, PATH, PATH_TEMPLATE}
 use Rattle.envoy_types.specs.declared.keys.TheConstants.{SERVER_NAME, TYPE, URI_TEMPLATE, URL_PATH}
 use Rattle.envoy_types.specs.declared.names.TheConstants.{URI_TEMPLATE_NAME, URI_TEMPLATE_TYPE}
@@ -41,45 +39,38 @@ url-path-back d m known = record {
 config-back : (uri : List ℕ) → is_uri uri ≡ true
     → Back template_config_faults (required_written_in PATH_TEMPLATE.now text_in)
     (config_written URI_TEMPLATE_TYPE.now (field PATH_TEMPLATE.now (string uri) ∷ [])) uri
-unfolding template_config_faults is_known
+unfolding template_config_faults required_written required_written_in unknown_faults object_faults is_known
 config-back uri h =
-    let fs : List Field = field TYPE.now (string URI_TEMPLATE_TYPE.now) ∷ field PATH_TEMPLATE.now (string uri) ∷ [] in
-    let there = get-object PATH_TEMPLATE.now fs refl in
+    let type = fixed-passes URI_TEMPLATE_TYPE.now in
     let text = tested-back is_uri reason.BadForm uri h in
     record {
-      passes = strict-object (TYPE.now ∷ PATH_TEMPLATE.now ∷ []) _ fs refl
-          (both (type-passes URI_TEMPLATE_TYPE.now (field PATH_TEMPLATE.now (string uri) ∷ []) refl)
-          (required-passes PATH_TEMPLATE.now template_faults (object_of fs) (string uri) there text.passes));
-      back = required-back PATH_TEMPLATE.now text_in (object_of fs) (string uri) there ∙ text.back;
+      passes = record { clean = λ at. rw (type.clean (at_key TYPE.now at), text.passes.clean (at_key PATH_TEMPLATE.now at)) refl };
+      back = text.back;
     }
 
 template-back : (uri : List ℕ) → is_uri uri ≡ true → Back uri_template_faults uri_template_in (uri_template_written uri) uri
 unfolding uri_template_in uri_template_written
-template-back uri h = named-back URI_TEMPLATE_NAME.now template_config_faults (required_written_in PATH_TEMPLATE.now text_in) _ uri (config-back uri h)
+template-back uri h =
+    named-back URI_TEMPLATE_NAME.now template_config_faults (required_written_in PATH_TEMPLATE.now text_in) _ uri (config-back uri h)
 
 -- ---- leaves
 
-module _ (block-back : (block : Cidr) → block_is_printable block ≡ true → Back block_faults block_in (block_written block) block) where
-  pub permission-reads-back : (l : PermissionLeaf) → permission_form.leaf_is_printable l ≡ true → ReadsBack permission_form l
-  unfolding permission_leaf_faults permission_leaf_in permission_leaf_written permission_leaf_is_printable
-  permission-reads-back (leaf.DestinationIp block) h =
-      leaf-reads-back permission_form (leaf.DestinationIp block) DESTINATION_IP.now (block_written block) refl
-      (let known = block-back block h in record { passes = known.passes; back = ap leaf.DestinationIp known.back })
-  permission-reads-back (leaf.DestinationPort port) h =
-      leaf-reads-back permission_form (leaf.DestinationPort port) DESTINATION_PORT.now _ refl
-      (let known = number-within-back 0 65535 port h in record { passes = known.passes; back = ap leaf.DestinationPort known.back })
-  permission-reads-back (leaf.Header m) h =
-      leaf-reads-back permission_form (leaf.Header m) HEADER.now _ refl
-      (let known = header-back m h in record { passes = known.passes; back = ap leaf.Header known.back })
-  permission-reads-back (leaf.ServerName m) h =
-      leaf-reads-back permission_form (leaf.ServerName m) SERVER_NAME.now _ refl
-      (let known = string-back m h in record { passes = known.passes; back = ap leaf.ServerName known.back })
-  permission-reads-back (leaf.UriTemplate uri) h =
-      leaf-reads-back permission_form (leaf.UriTemplate uri) URI_TEMPLATE.now _ refl
-      (let known = template-back uri h in record { passes = known.passes; back = ap leaf.UriTemplate known.back })
-  permission-reads-back (leaf.UrlPath m) h =
-      leaf-reads-back permission_form (leaf.UrlPath m) URL_PATH.now _ refl
-      (let known = url-path-back (string_written m) m (string-back m h) in record { passes = known.passes; back = ap leaf.UrlPath known.back })
+pub permission-reads-back : (l : PermissionLeaf) → permission_form.leaf_is_printable l ≡ true → ReadsBack permission_form l
+unfolding permission_leaf_faults permission_leaf_in permission_leaf_written permission_leaf_is_printable
+permission-reads-back (leaf.DestinationIp block) h =
+    leaf-reads-back permission_form (leaf.DestinationIp block) DESTINATION_IP.now _ refl (as-leaf leaf.DestinationIp (block-back block h))
+permission-reads-back (leaf.DestinationPort port) h =
+    leaf-reads-back permission_form (leaf.DestinationPort port) DESTINATION_PORT.now _ refl
+    (as-leaf leaf.DestinationPort (number-within-back 0 65535 port h))
+permission-reads-back (leaf.Header m) h =
+    leaf-reads-back permission_form (leaf.Header m) HEADER.now _ refl (as-leaf leaf.Header (header-back m h))
+permission-reads-back (leaf.ServerName m) h =
+    leaf-reads-back permission_form (leaf.ServerName m) SERVER_NAME.now _ refl (as-leaf leaf.ServerName (string-back m h))
+permission-reads-back (leaf.UriTemplate uri) h =
+    leaf-reads-back permission_form (leaf.UriTemplate uri) URI_TEMPLATE.now _ refl (as-leaf leaf.UriTemplate (template-back uri h))
+permission-reads-back (leaf.UrlPath m) h =
+    leaf-reads-back permission_form (leaf.UrlPath m) URL_PATH.now _ refl
+    (as-leaf leaf.UrlPath (url-path-back (string_written m) m (string-back m h)))
 
 pub permission-writes : (l : PermissionLeaf) → WritesLeaf permission_form l
 unfolding permission_leaf_written is_known

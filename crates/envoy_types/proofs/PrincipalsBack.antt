@@ -1,17 +1,16 @@
 -- A leaf of principals that is written is read back.
-use Rattle.std.proofs.Common.{◌≡◌, ℕ, Bool, true, List, [], ◌∷◌, Option, Some, None, refl, ap}
-use Rattle.serde_json.specs.Data.{Data}
+use Rattle.std.proofs.Common.{◌≡◌, ℕ, true, List, Option, Some, None, refl}
 use Rattle.mesh_doc.specs.Fields.{optional_written, optional_written_in}
 use Rattle.mesh_doc.specs.Kinds.{object_faults}
 use Rattle.mesh_doc.specs.Known.{is_known, unknown_faults}
 use Rattle.mesh_doc.specs.Places.{at_key}
-use Rattle.mesh_net.specs.declared.cidr.Cidr.{Cidr}
+use Rattle.envoy_types.proofs.BlocksBack.{block-back}
+use Rattle.envoy_types.proofs.FieldsBack.{Passes}
 use Rattle.envoy_types.proofs.HeadersBack.{header-back}
-use Rattle.envoy_types.proofs.LeavesBack.{leaf-reads-back, leaf-writes}
+use Rattle.envoy_types.proofs.LeavesBack.{as-leaf, leaf-reads-back, leaf-writes}
 use Rattle.envoy_types.proofs.PartsBack.{Back}
 use Rattle.envoy_types.proofs.StringsBack.{string-back}
 use Rattle.envoy_types.proofs.ValuesBack.{metadata-back}
-use Rattle.envoy_types.specs.BlockForms.{block_faults, block_in, block_is_printable, block_written}
 use Rattle.envoy_types.specs.PrincipalForms.{authenticated_faults, authenticated_in, authenticated_is_printable, authenticated_written}
 use Rattle.envoy_types.specs.PrincipalForms.{principal_form, principal_leaf_faults, principal_leaf_in, principal_leaf_is_printable}
 use Rattle.envoy_types.specs.PrincipalForms.{principal_leaf_written}
@@ -29,40 +28,38 @@ any-name-back : Back authenticated_faults authenticated_in (authenticated_writte
 unfolding authenticated_faults authenticated_in authenticated_written optional_written optional_written_in unknown_faults object_faults
 any-name-back = record { passes = record { clean = λ at. refl }; back = refl }
 
-name-back : (m : StringMatcher) → Back string_faults string_in (string_written m) m
-    → Back authenticated_faults authenticated_in (authenticated_written (Some m)) (Some m)
-unfolding authenticated_faults authenticated_in authenticated_written optional_written optional_written_in unknown_faults object_faults is_known
-name-back m known = record {
-  passes = record { clean = λ at. rw (known.passes.clean (at_key PRINCIPAL_NAME.now at)) refl };
-  back = ap (λ n. Some n) known.back;
-}
+name-passes : (m : StringMatcher) → Passes string_faults (string_written m) → Passes authenticated_faults (authenticated_written (Some m))
+unfolding authenticated_faults authenticated_written optional_written unknown_faults object_faults is_known
+name-passes m p = record { clean = λ at. rw (p.clean (at_key PRINCIPAL_NAME.now at)) refl }
+
+name-is : (m : StringMatcher) → string_in (string_written m) ≡ m → authenticated_in (authenticated_written (Some m)) ≡ Some m
+unfolding authenticated_in authenticated_written optional_written_in
+name-is m is = rw is refl
 
 authenticated-back : (name : Option StringMatcher) → authenticated_is_printable name ≡ true
     → Back authenticated_faults authenticated_in (authenticated_written name) name
 authenticated-back None h = any-name-back
-authenticated-back (Some m) h = name-back m (string-back m h)
+authenticated-back (Some m) h =
+    let known = string-back m h in
+    record { passes = name-passes m known.passes; back = name-is m known.back }
 
 -- ---- leaves
 
-module _ (block-back : (block : Cidr) → block_is_printable block ≡ true → Back block_faults block_in (block_written block) block) where
-  pub principal-reads-back : (l : PrincipalLeaf) → principal_form.leaf_is_printable l ≡ true → ReadsBack principal_form l
-  unfolding principal_leaf_faults principal_leaf_in principal_leaf_written principal_leaf_is_printable
-  principal-reads-back (leaf.Authenticated name) h =
-      leaf-reads-back principal_form (leaf.Authenticated name) AUTHENTICATED.now _ refl
-      (let known = authenticated-back name h in record { passes = known.passes; back = ap leaf.Authenticated known.back })
-  principal-reads-back (leaf.DirectRemoteIp block) h =
-      leaf-reads-back principal_form (leaf.DirectRemoteIp block) DIRECT_REMOTE_IP.now _ refl
-      (let known = block-back block h in record { passes = known.passes; back = ap leaf.DirectRemoteIp known.back })
-  principal-reads-back (leaf.RemoteIp block) h =
-      leaf-reads-back principal_form (leaf.RemoteIp block) REMOTE_IP.now _ refl
-      (let known = block-back block h in record { passes = known.passes; back = ap leaf.RemoteIp known.back })
-  principal-reads-back (leaf.Header m) h =
-      leaf-reads-back principal_form (leaf.Header m) HEADER.now _ refl
-      (let known = header-back m h in record { passes = known.passes; back = ap leaf.Header known.back })
-  principal-reads-back (leaf.Metadata keys value) h =
-      leaf-reads-back principal_form (leaf.Metadata keys value) METADATA.now _ refl
-      (let known = metadata-back keys value h in
-      record { passes = known.passes; back = ap (λ (claim : List (List ℕ) × ValueMatcher). leaf.Metadata claim.0 claim.1) known.back })
+pub principal-reads-back : (l : PrincipalLeaf) → principal_form.leaf_is_printable l ≡ true → ReadsBack principal_form l
+unfolding principal_leaf_faults principal_leaf_in principal_leaf_written principal_leaf_is_printable
+principal-reads-back (leaf.Authenticated name) h =
+    leaf-reads-back principal_form (leaf.Authenticated name) AUTHENTICATED.now _ refl
+    (as-leaf leaf.Authenticated (authenticated-back name h))
+principal-reads-back (leaf.DirectRemoteIp block) h =
+    leaf-reads-back principal_form (leaf.DirectRemoteIp block) DIRECT_REMOTE_IP.now _ refl
+    (as-leaf leaf.DirectRemoteIp (block-back block h))
+principal-reads-back (leaf.RemoteIp block) h =
+    leaf-reads-back principal_form (leaf.RemoteIp block) REMOTE_IP.now _ refl (as-leaf leaf.RemoteIp (block-back block h))
+principal-reads-back (leaf.Header m) h =
+    leaf-reads-back principal_form (leaf.Header m) HEADER.now _ refl (as-leaf leaf.Header (header-back m h))
+principal-reads-back (leaf.Metadata keys value) h =
+    leaf-reads-back principal_form (leaf.Metadata keys value) METADATA.now _ refl
+    (as-leaf (λ (claim : List (List ℕ) × ValueMatcher). leaf.Metadata claim.0 claim.1) (metadata-back keys value h))
 
 pub principal-writes : (l : PrincipalLeaf) → WritesLeaf principal_form l
 unfolding principal_leaf_written is_known

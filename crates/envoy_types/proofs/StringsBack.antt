@@ -6,7 +6,6 @@ use Rattle.mesh_doc.specs.Kinds.{object_faults, text_faults, text_in, truth_faul
 use Rattle.mesh_doc.specs.Known.{is_known, unknown_faults}
 use Rattle.mesh_doc.specs.Places.{Steps}
 use Rattle.mesh_doc.specs.Tested.{tested}
-use Rattle.envoy_types.proofs.FieldsBack.{Passes}
 use Rattle.envoy_types.proofs.PartsBack.{Back}
 use Rattle.envoy_types.specs.SmallForms.{one_of}
 use Rattle.envoy_types.specs.StringForms.{is_filled, may_be_empty, string_faults, string_in, string_is_printable, string_written}
@@ -15,9 +14,11 @@ use Rattle.envoy_types.specs.declared.strings.MatchKind.{MatchKind}
 use Rattle.envoy_types.specs.declared.strings.MatchKind.TheVariants.{Exact, Prefix, Suffix, Contains}
 use Rattle.envoy_types.specs.declared.strings.StringMatcher.{StringMatcher}
 
+-- ---- a matcher of each kind, with `ignore_case` and without
+
 clean : (kind : MatchKind) (text : List ℕ) (fold : Bool) (at : Steps) → (may_be_empty kind || is_filled text) ≡ true
     → first (string_faults (string_written (matcher_with kind text fold)) at) ≡ None
-unfolding string_faults string_written optional_written text_faults text_in truth_faults truth_in tested one_of unknown_faults object_faults is_known
+unfolding string_faults string_written optional_written text_faults text_in truth_faults tested one_of unknown_faults object_faults is_known
 clean Exact text true at h = refl
 clean Exact text false at h = refl
 clean Prefix text true at h = rw h refl

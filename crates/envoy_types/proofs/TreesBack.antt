@@ -1,5 +1,6 @@
 -- A printable tree is written as a value that has no fault and means that tree.
-use Rattle.std.proofs.Common.{◌≡◌, ℕ, ◌+◌, Bool, true, false, true≢false, not, ◌&&◌, ◌||◌, nat_le, List, [], ◌∷◌, length, map, None, refl, sym, ap, ap₂, subst, ◌∙◌, suc, if◌then◌else◌}
+use Rattle.std.proofs.Common.{◌≡◌, ℕ, ◌+◌, Bool, true, false, not, ◌||◌, nat_le, List, [], ◌∷◌}
+use Rattle.std.proofs.Common.{length, map, None, refl, sym, ap, ap₂, subst, ◌∙◌, suc, if◌then◌else◌}
 use Rattle.std.proofs.lemmas.Bool.{and_parts, or_left, or_right}
 use Rattle.std.proofs.lemmas.List.Folds.{list_all-map}
 use Rattle.std.proofs.lemmas.Slice.Eq.{bytes_eq-Decides}
@@ -10,7 +11,7 @@ use Rattle.serde_json.specs.Events.{items_len}
 use Rattle.serde_json.specs.View.{items_of}
 use Rattle.mesh_doc.specs.Faults.{Faults, first, none}
 use Rattle.mesh_doc.specs.Kinds.{truth_faults, truth_in}
-use Rattle.mesh_doc.specs.Known.{is_known, unknown_in}
+use Rattle.mesh_doc.specs.Known.{is_known}
 use Rattle.mesh_doc.specs.Places.{Steps, at_index, at_key}
 use Rattle.mesh_tree.specs.declared.tree.Node.{Node, Node-F, fold-roll-Node, map-Node, roll-Node}
 use Rattle.mesh_tree.specs.declared.tree.Node.TheVariants as Node
@@ -19,25 +20,23 @@ use Rattle.mesh_tree.specs.Tree.{tree_of}
 use Rattle.mesh_tree.proofs.FoldLemmas.{folded, opened}
 use Rattle.envoy_types.specs.SmallForms.{is_within, most_entries, true_faults}
 use Rattle.envoy_types.specs.TreeForms.{TreeForm, HasOwnNames, ReadsBack, WritesLeaf, any_tree}
-use Rattle.envoy_types.specs.TreeForms.{tree_faults, tree_in, tree_is_printable, tree_list_faults, tree_list_in, tree_list_is_printable, tree_written}
-use Rattle.envoy_types.specs.TreeForms.{alternative_in, alternatives_faults, each_tree_faults, each_tree_in, known_names, node_is_printable, node_written}
-use Rattle.envoy_types.specs.TreeForms.{parts_faults, parts_in, trees_faults, trees_in}
+use Rattle.envoy_types.specs.TreeForms.{tree_faults, tree_in, tree_is_printable, tree_list_faults}
+use Rattle.envoy_types.specs.TreeForms.{tree_list_in, tree_list_is_printable, tree_written}
+use Rattle.envoy_types.specs.TreeForms.{each_tree_faults, each_tree_in, known_names, node_is_printable, node_written}
+use Rattle.envoy_types.specs.TreeForms.{parts_faults, parts_in, trees_faults}
 use Rattle.envoy_types.specs.WrittenFields.{are_different, list_written, sole_field}
 use Rattle.envoy_types.specs.declared.keys.TheConstants.{ANY}
-use Rattle.envoy_types.proofs.FieldsBack.{Passes, none-in-both}
-use Rattle.envoy_types.proofs.PartsBack.{Back}
+use Rattle.envoy_types.proofs.FieldsBack.{none-in-both}
+use Rattle.envoy_types.proofs.PartsBack.{Back, same-text}
 
 -- ---- names
-
-itself : (name : List ℕ) → bytes_eq name name ≡ true
-itself name = (bytes_eq-Decides name name).1 refl
 
 swapped : (a b : List ℕ) → bytes_eq a b ≡ true → bytes_eq b a ≡ true
 swapped a b h = (bytes_eq-Decides b a).1 (sym ((bytes_eq-Decides a b).0 h))
 
 here : (name : List ℕ) (names : List (List ℕ)) → is_known (name ∷ names) name ≡ true
 unfolding is_known
-here name names = or_left _ _ (itself name)
+here name names = or_left _ _ (same-text name)
 
 further : (name key : List ℕ) (names : List (List ℕ)) → is_known names key ≡ true → is_known (name ∷ names) key ≡ true
 unfolding is_known
@@ -54,8 +53,8 @@ unfolding is_known
 among key [] h = h
 among key (name ∷ names) h = either (bytes_eq name key) _ key name names refl h (among key names)
 
-same-known : (b : Bool) (key name : List ℕ) (names : List (List ℕ)) → bytes_eq key name ≡ b → not (list_any (bytes_eq name) names) ≡ true
-    → is_known names key ≡ true → b ≡ false
+same-known : (b : Bool) (key name : List ℕ) (names : List (List ℕ)) → bytes_eq key name ≡ b
+    → not (list_any (bytes_eq name) names) ≡ true → is_known names key ≡ true → b ≡ false
 same-known true key name names e apart known =
     let same : key ≡ name = (bytes_eq-Decides key name).0 e in
     let found : list_any (bytes_eq name) names ≡ true = ap (λ n. list_any (bytes_eq n) names) (sym same) ∙ among key names known in
@@ -66,7 +65,8 @@ same-known false key name names e apart known = refl
 differs : (key name : List ℕ) (names : List (List ℕ)) → are_different (name ∷ names) ≡ true → is_known names key ≡ true
     → bytes_eq key name ≡ false
 differs key name names apart known =
-    same-known (bytes_eq key name) key name names refl (and_parts (not (list_any (bytes_eq name) names)) (are_different names) apart).0 known
+    let both = and_parts (not (list_any (bytes_eq name) names)) (are_different names) apart in
+    same-known (bytes_eq key name) key name names refl both.0 known
 
 others-differ : (name : List ℕ) (names : List (List ℕ)) → are_different (name ∷ names) ≡ true → are_different names ≡ true
 others-differ name names apart = (and_parts (not (list_any (bytes_eq name) names)) (are_different names) apart).1
@@ -157,7 +157,7 @@ module _ {L : Type 0} (form : TreeForm L) (own : HasOwnNames form) where
       let in-or = further form.or_name form.not_name from_not in-not in
       let not-and = differs form.not_name form.and_name from_or own in-or in
       let not-or = differs form.not_name form.or_name from_not apart-or in-not in
-      let same = itself form.not_name in
+      let same = same-text form.not_name in
       (
         sole-clean form.not_name d (further form.and_name form.not_name from_or in-or) (λ at. rw (not-and, not-or, same) (means.0 at)),
         rw (not-and, not-or, same) (ap (λ (t : Tree L). tree_of (Node.Not t)) means.1),
@@ -171,7 +171,7 @@ module _ {L : Type 0} (form : TreeForm L) (own : HasOwnNames form) where
 
   and-means : (d : Data) (trees : List (Tree L)) → PartsMean d trees → Means (sole_field form.and_name d) (tree_of (Node.And trees))
   and-means d trees means =
-      let same = itself form.and_name in
+      let same = same-text form.and_name in
       (
         sole-clean form.and_name d (here form.and_name from_or) (λ at. rw same (means.0 at)),
         rw same (ap (λ (ts : List (Tree L)). tree_of (Node.And ts)) means.1),
@@ -181,7 +181,7 @@ module _ {L : Type 0} (form : TreeForm L) (own : HasOwnNames form) where
   or-means d trees means =
       let in-or = here form.or_name from_not in
       let not-and = differs form.or_name form.and_name from_or own in-or in
-      let same = itself form.or_name in
+      let same = same-text form.or_name in
       (
         sole-clean form.or_name d (further form.and_name form.or_name from_or in-or) (λ at. rw (not-and, same) (means.0 at)),
         rw (not-and, same) (ap (λ (ts : List (Tree L)). tree_of (Node.Or ts)) means.1),
@@ -221,7 +221,7 @@ module _ {L : Type 0} (form : TreeForm L) (own : HasOwnNames form) where
       → PartsMean (sole_field form.parts_name (array (items_of (map (tree_written form) trees)))) trees
   parts-mean trees back few printable =
       let known = here form.parts_name [] in
-      let same = itself form.parts_name in
+      let same = same-text form.parts_name in
       (
         λ at. rw (known, same) (trees-clean trees back few printable (at_key form.parts_name at)),
         rw same (each-back trees back printable),
@@ -264,7 +264,7 @@ module _ {L : Type 0} (form : TreeForm L) (own : HasOwnNames form) (writes : (le
   parts_written trees = sole_field form.parts_name (array (items_of (map (tree_written form) trees)))
 
   list-mean : (trees : List (Tree L)) → AllBack form own trees
-      → (is_within 1 most_entries (length (map (tree_is_printable form) trees)) && list_all (λ printable. printable) (map (tree_is_printable form) trees)) ≡ true
+      → node_is_printable form (Node-F.And (map (tree_is_printable form) trees)) ≡ true
       → PartsMean form own (parts_written trees) trees
   list-mean trees back printable =
       let folds = map (tree_is_printable form) trees in

@@ -1,5 +1,5 @@
 -- A matcher of claims that is written is read back: what is asked of the value, and the keys down to it.
-use Rattle.std.proofs.Common.{◌≡◌, ℕ, ◌+◌, Bool, true, false, nat_le, List, [], ◌∷◌, length, map, None, refl, sym, ap, ap₂, ◌∙◌, suc}
+use Rattle.std.proofs.Common.{◌≡◌, ℕ, ◌+◌, true, false, nat_le, List, [], ◌∷◌, length, map, None, refl, ap, suc}
 use Rattle.std.proofs.Math.Numerals.{suc-eq-add-one}
 use Rattle.std.proofs.lemmas.Bool.{and_parts}
 use Rattle.serde_json.specs.Data.{Data, boolean, string}
@@ -7,22 +7,22 @@ use Rattle.serde_json.specs.Events.{items_len}
 use Rattle.serde_json.specs.View.{items_of}
 use Rattle.mesh_doc.specs.Faults.{Check, Faults, first}
 use Rattle.mesh_doc.specs.Fields.{optional_written, optional_written_in, required_written, required_written_in}
-use Rattle.mesh_doc.specs.Kinds.{length_in, list_faults, object_faults, text_faults, text_in, truth_faults, truth_in}
+use Rattle.mesh_doc.specs.Kinds.{length_in, list_faults, object_faults, text_faults, text_in}
 use Rattle.mesh_doc.specs.Known.{is_known, unknown_faults}
 use Rattle.mesh_doc.specs.Lists.{each_in, list_in}
 use Rattle.mesh_doc.specs.Places.{Steps, at_index, at_key}
 use Rattle.mesh_doc.specs.Turns.{each_in_turn, list_in_turn}
 use Rattle.mesh_doc.specs.declared.reason.Reason.TheVariants as reason
-use Rattle.envoy_types.proofs.FieldsBack.{Passes, behind, both, demanded, get-object, none-in-both, required-back, required-passes}
-use Rattle.envoy_types.proofs.FieldsBack.{strict-object}
-use Rattle.envoy_types.proofs.PartsBack.{Back, fixed-passes, list-passes, text-passes, written-length}
+use Rattle.envoy_types.proofs.FieldsBack.{Passes, behind, both, demanded, none-in-both}
+use Rattle.envoy_types.proofs.PartsBack.{Back, fixed-passes, list-passes, text-passes, true-passes, written-length}
 use Rattle.envoy_types.proofs.StringsBack.{string-back}
-use Rattle.envoy_types.specs.SmallForms.{fixed_faults, is_within, list_in_turn_that, most_entries, one_of, short_list_faults, true_faults}
-use Rattle.envoy_types.specs.StringForms.{string_faults, string_in, string_is_printable, string_written}
+use Rattle.envoy_types.specs.SmallForms.{fixed_faults, is_within, list_in_turn_that, most_entries, one_of}
+use Rattle.envoy_types.specs.StringForms.{string_faults, string_in, string_written}
 use Rattle.envoy_types.specs.ValueForms.{list_match_faults, list_match_in, list_match_written, metadata_faults, metadata_is_printable}
 use Rattle.envoy_types.specs.ValueForms.{metadata_written, one_of_faults, one_of_in, path_faults, path_in, path_segment_faults, path_written}
-use Rattle.envoy_types.specs.ValueForms.{segment_faults, segment_in, segment_written, value_faults, value_in, value_is_printable, value_written}
-use Rattle.envoy_types.specs.WrittenFields.{Field, field, list_written, object_of, sole_field}
+use Rattle.envoy_types.specs.ValueForms.{segment_faults, segment_in, segment_written}
+use Rattle.envoy_types.specs.ValueForms.{value_faults, value_in, value_is_printable, value_written}
+use Rattle.envoy_types.specs.WrittenFields.{list_written, sole_field}
 use Rattle.envoy_types.specs.declared.fixed.TheConstants.{PAYLOAD}
 use Rattle.envoy_types.specs.declared.keys.TheConstants.{FILTER, KEY, LIST_MATCH, ONE_OF, PATH, PRESENT_MATCH, STRING_MATCH, VALUE}
 use Rattle.envoy_types.specs.declared.metadata.ValueMatcher.{ValueMatcher}
@@ -33,8 +33,8 @@ use Rattle.envoy_types.specs.declared.strings.StringMatcher.{StringMatcher}
 -- ---- what is asked of a value
 
 entry-present : Back one_of_faults one_of_in (sole_field PRESENT_MATCH.now (boolean true)) OneOfPresent
-unfolding one_of_faults one_of_in optional_written optional_written_in one_of true_faults truth_faults truth_in unknown_faults object_faults is_known
-entry-present = record { passes = record { clean = λ at. refl }; back = refl }
+unfolding one_of_faults one_of_in optional_written optional_written_in one_of unknown_faults object_faults is_known
+entry-present = record { passes = record { clean = λ at. rw (true-passes.clean (at_key PRESENT_MATCH.now at)) refl }; back = refl }
 
 entry-words : (m : StringMatcher) → Back string_faults string_in (string_written m) m
     → Back one_of_faults one_of_in (sole_field STRING_MATCH.now (string_written m)) (OneOf m)
@@ -64,8 +64,8 @@ list-match-back entry value known =
     }
 
 value-present : Back value_faults value_in (value_written Present) Present
-unfolding value_faults value_in value_written optional_written optional_written_in one_of true_faults truth_faults truth_in unknown_faults object_faults is_known
-value-present = record { passes = record { clean = λ at. refl }; back = refl }
+unfolding value_faults value_in value_written optional_written optional_written_in one_of unknown_faults object_faults is_known
+value-present = record { passes = record { clean = λ at. rw (true-passes.clean (at_key PRESENT_MATCH.now at)) refl }; back = refl }
 
 value-words : (m : StringMatcher) → Back string_faults string_in (string_written m) m
     → Back value_faults value_in (value_written (Words m)) (Words m)
@@ -142,21 +142,24 @@ path-back keys h = record { passes = path-passes keys (rw (suc-eq-add-one (lengt
 abbrev pub metadata_in : Data → List (List ℕ) × ValueMatcher
 metadata_in d = (required_written_in PATH.now path_in d, required_written_in VALUE.now value_in d)
 
+metadata-passes : (keys : List (List ℕ)) (value : ValueMatcher) → Passes path_faults (path_written keys)
+    → Passes value_faults (value_written value) → Passes metadata_faults (metadata_written keys value)
+unfolding metadata_faults metadata_written required_written unknown_faults object_faults is_known
+metadata-passes keys value path asked = record {
+  clean = λ at.
+      let filter = (fixed-passes JWT_NAME.now).clean (at_key FILTER.now at) in
+      rw (filter, path.clean (at_key PATH.now at), asked.clean (at_key VALUE.now at)) refl;
+}
+
+metadata-is : (keys : List (List ℕ)) (value : ValueMatcher) → path_in (path_written keys) ≡ keys → value_in (value_written value) ≡ value
+    → metadata_in (metadata_written keys value) ≡ (keys, value)
+unfolding metadata_written required_written_in
+metadata-is keys value path asked = rw (path, asked) refl
+
 pub metadata-back : (keys : List (List ℕ)) (value : ValueMatcher) → metadata_is_printable keys value ≡ true
     → Back metadata_faults metadata_in (metadata_written keys value) (keys, value)
-unfolding metadata_faults metadata_written metadata_is_printable is_known
+unfolding metadata_is_printable
 metadata-back keys value h =
-    let fs : List Field = field FILTER.now (string JWT_NAME.now) ∷ field PATH.now (path_written keys) ∷ field VALUE.now (value_written value) ∷ [] in
     let path = path-back keys (and_parts _ _ h).0 in
     let asked = value-back value (and_parts _ _ h).1 in
-    let filter-there = get-object FILTER.now fs refl in
-    let path-there = get-object PATH.now fs refl in
-    let value-there = get-object VALUE.now fs refl in
-    record {
-      passes = strict-object (FILTER.now ∷ PATH.now ∷ VALUE.now ∷ []) _ fs refl
-          (both (required-passes FILTER.now (fixed_faults JWT_NAME.now) (object_of fs) (string JWT_NAME.now) filter-there (fixed-passes JWT_NAME.now))
-          (both (required-passes PATH.now path_faults (object_of fs) (path_written keys) path-there path.passes)
-          (required-passes VALUE.now value_faults (object_of fs) (value_written value) value-there asked.passes)));
-      back = ap₂ (λ p v. (p, v)) (required-back PATH.now path_in (object_of fs) (path_written keys) path-there ∙ path.back)
-          (required-back VALUE.now value_in (object_of fs) (value_written value) value-there ∙ asked.back);
-    }
+    record { passes = metadata-passes keys value path.passes asked.passes; back = metadata-is keys value path.back asked.back }

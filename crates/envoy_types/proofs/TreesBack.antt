@@ -129,8 +129,7 @@ module _ {L : Type 0} (form : TreeForm L) (own : HasOwnNames form) where
       let in-or = further form.or_name ANY.now from_not in-not in
       let not-and = differs ANY.now form.and_name from_or own in-or in
       let not-or = differs ANY.now form.or_name from_not apart-or in-not in
-      let not-not = differs ANY.now form.not_name from_any apart-not in-any in
-      (
+      let not-not = differs ANY.now form.not_name from_any apart-not in-any in (
         sole-clean ANY.now (boolean true) (further form.and_name ANY.now from_or in-or) (λ at. rw (not-and, not-or, not-not) refl),
         rw (not-and, not-or, not-not) refl,
       )
@@ -157,8 +156,7 @@ module _ {L : Type 0} (form : TreeForm L) (own : HasOwnNames form) where
       let in-or = further form.or_name form.not_name from_not in-not in
       let not-and = differs form.not_name form.and_name from_or own in-or in
       let not-or = differs form.not_name form.or_name from_not apart-or in-not in
-      let same = same-text form.not_name in
-      (
+      let same = same-text form.not_name in (
         sole-clean form.not_name d (further form.and_name form.not_name from_or in-or) (λ at. rw (not-and, not-or, same) (means.0 at)),
         rw (not-and, not-or, same) (ap (λ (t : Tree L). tree_of (Node.Not t)) means.1),
       )
@@ -171,8 +169,7 @@ module _ {L : Type 0} (form : TreeForm L) (own : HasOwnNames form) where
 
   and-means : (d : Data) (trees : List (Tree L)) → PartsMean d trees → Means (sole_field form.and_name d) (tree_of (Node.And trees))
   and-means d trees means =
-      let same = same-text form.and_name in
-      (
+      let same = same-text form.and_name in (
         sole-clean form.and_name d (here form.and_name from_or) (λ at. rw same (means.0 at)),
         rw same (ap (λ (ts : List (Tree L)). tree_of (Node.And ts)) means.1),
       )
@@ -181,8 +178,7 @@ module _ {L : Type 0} (form : TreeForm L) (own : HasOwnNames form) where
   or-means d trees means =
       let in-or = here form.or_name from_not in
       let not-and = differs form.or_name form.and_name from_or own in-or in
-      let same = same-text form.or_name in
-      (
+      let same = same-text form.or_name in (
         sole-clean form.or_name d (further form.and_name form.or_name from_or in-or) (λ at. rw (not-and, same) (means.0 at)),
         rw (not-and, same) (ap (λ (ts : List (Tree L)). tree_of (Node.Or ts)) means.1),
       )
@@ -221,8 +217,7 @@ module _ {L : Type 0} (form : TreeForm L) (own : HasOwnNames form) where
       → PartsMean (sole_field form.parts_name (array (items_of (map (tree_written form) trees)))) trees
   parts-mean trees back few printable =
       let known = here form.parts_name [] in
-      let same = same-text form.parts_name in
-      (
+      let same = same-text form.parts_name in (
         λ at. rw (known, same) (trees-clean trees back few printable (at_key form.parts_name at)),
         rw same (each-back trees back printable),
       )

@@ -1,20 +1,21 @@
 -- A map of things whose names rise strictly reads back: no member passes another over, and each means its thing.
-use Rattle.std.proofs.Common.{◌≡◌, ℕ, Bool, true, false, List, [], ◌∷◌, None, Less, Equal, Greater, refl, sym, ap, ap₂, ◌∙◌, is_eq, bytes_eq, nat_cmp}
+use Rattle.std.proofs.Common.{◌≡◌, ℕ, Bool, true, false, List, [], ◌∷◌, None, Less, Equal, Greater, refl, sym, ap, ap₂, ◌∙◌}
+use Rattle.std.proofs.Common.{is_eq, bytes_eq, nat_cmp}
 use Rattle.std.proofs.lemmas.Bool.{and_parts}
 use Rattle.std.proofs.lemmas.Cmp.{nat_list_cmp_total}
 use Rattle.std.proofs.lemmas.Map.Text.{is_eq-slice_cmp}
 use Rattle.std.specs.Cmp.Lexicographic.{slice_cmp}
 use Rattle.std.specs.List.{AllByRecursion, list_all, list_any}
-use Rattle.std.specs.Ordering.{is_lt, match_ordering, ordering_reverse}
+use Rattle.std.specs.Ordering.{is_lt, ordering_reverse}
 use Rattle.std.specs.declared.cmp.Ordering.{Ordering}
-use Rattle.serde_json.specs.Data.{Data, object, Members, no_members, member, put}
+use Rattle.serde_json.specs.Data.{Data, Members, no_members, member, put}
 use Rattle.mesh_doc.specs.Faults.{Check, first}
 use Rattle.mesh_doc.specs.Kinds.{object_faults}
 use Rattle.mesh_doc.specs.Maps.{each_member_faults, each_member_in, map_in, map_of, unique_besides}
 use Rattle.mesh_doc.specs.Places.{Steps, at_key}
 use Rattle.envoy_types.specs.Order.{is_below, names_rise}
 use Rattle.envoy_types.specs.WrittenFields.{map_written, named_onto}
-use Rattle.envoy_types.proofs.FieldsBack.{Passes, none-in-both}
+use Rattle.envoy_types.proofs.FieldsBack.{none-in-both}
 use Rattle.envoy_types.proofs.PartsBack.{Back}
 
 -- ---- of two names, one below the other

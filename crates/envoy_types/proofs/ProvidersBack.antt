@@ -1,10 +1,11 @@
 -- What is written of a token provider is read back.
-use Rattle.std.proofs.Common.{◌≡◌, ℕ, ◌==◌, Bool, true, false, ◌&&◌, not, List, [], ◌∷◌, ◌++◌, length, map, Option, Some, None, option_map, unwrap_or, refl, sym, ap, ap₂, ◌∙◌, if◌then◌else◌}
+use Rattle.std.proofs.Common.{◌≡◌, ℕ, ◌==◌, Bool, true, false, ◌&&◌, not, List, [], ◌∷◌, ◌++◌, length, map, Option, Some, None}
+use Rattle.std.proofs.Common.{option_map, unwrap_or, refl, ap, ap₂, ◌∙◌, if◌then◌else◌}
 use Rattle.std.proofs.lemmas.Bool.{and_parts}
 use Rattle.std.specs.List.{filter_map, list_all}
 use Rattle.serde_json.specs.Data.{Data, boolean, string, Items, no_items, item}
 use Rattle.serde_json.specs.Find.{get}
-use Rattle.mesh_doc.specs.Faults.{Check, ◌⨾◌}
+use Rattle.mesh_doc.specs.Faults.{Check}
 use Rattle.mesh_doc.specs.Fields.{optional_written, optional_written_in, required_written, required_written_in, strict}
 use Rattle.mesh_doc.specs.Kinds as kinds
 use Rattle.mesh_doc.specs.Kinds.{text_faults, text_in, truth_faults, truth_in}
@@ -20,18 +21,23 @@ use Rattle.mesh_policy.specs.declared.jwt.TokenPlace.{TokenPlace}
 use Rattle.mesh_policy.specs.declared.jwt.TokenPlace.TheVariants as place
 use Rattle.envoy_types.specs.HeaderForms.{is_lower_token}
 use Rattle.envoy_types.specs.Jwt.{Provider}
-use Rattle.envoy_types.specs.Order.{are_places}
-use Rattle.envoy_types.specs.ProviderForms.{from_header_faults, from_header_in, from_header_written, from_param_in, header_of, param_of}
-use Rattle.envoy_types.specs.ProviderForms.{keys_field, payload_header_is_printable, provider_faults, provider_in, provider_is_printable, provider_rule_in, provider_written, token_fields_faults}
-use Rattle.envoy_types.specs.ProviderForms.{keys_in, keys_uri_faults, keys_uri_written, local_keys_faults, local_keys_in, remote_keys_faults, remote_keys_in}
-use Rattle.envoy_types.specs.ProviderForms.{is_short_list, lower_token_faults, place_is_printable, places_are_printable, places_in}
+use Rattle.envoy_types.specs.ProviderForms.{from_header_faults, from_header_in, from_header_written, from_param_in, header_of}
+use Rattle.envoy_types.specs.ProviderForms.{param_of, keys_field, payload_header_is_printable, provider_faults, provider_in}
+use Rattle.envoy_types.specs.ProviderForms.{provider_is_printable, provider_rule_in, provider_written, token_fields_faults}
+use Rattle.envoy_types.specs.ProviderForms.{keys_in, keys_uri_faults, keys_uri_written, local_keys_faults, local_keys_in}
+use Rattle.envoy_types.specs.ProviderForms.{remote_keys_faults, remote_keys_in, is_short_list, lower_token_faults}
+use Rattle.envoy_types.specs.ProviderForms.{place_is_printable, places_are_printable, places_in}
 use Rattle.envoy_types.specs.SmallForms.{fixed_faults, most_entries, one_of}
-use Rattle.envoy_types.specs.WrittenFields.{Field, field, list_field, object_of, optional_field, sole_field, text_field, truth_field}
+use Rattle.envoy_types.specs.WrittenFields.{Field, field, list_field, object_of, optional_field, sole_field, text_field}
+use Rattle.envoy_types.specs.WrittenFields.{truth_field}
 use Rattle.envoy_types.specs.declared.fixed.TheConstants.{KEYS_CLUSTER, KEYS_TIME, PAYLOAD}
-use Rattle.envoy_types.specs.declared.keys.TheConstants.{CLUSTER, FROM_HEADERS, FROM_PARAMS, HTTP_URI, INLINE_STRING, LOCAL_JWKS, NAME}
-use Rattle.envoy_types.specs.declared.keys.TheConstants.{AUDIENCES, FORWARD, FORWARD_PAYLOAD_HEADER, ISSUER, PAYLOAD_IN_METADATA, REMOTE_JWKS, TIMEOUT, URI, VALUE_PREFIX}
-use Rattle.envoy_types.proofs.FieldsBack.{Passes, absent-passes, both, get-object, optional-passes, required-back, required-passes, strict-object}
-use Rattle.envoy_types.proofs.PartsBack.{Back, fixed-passes, listed-back, not-zero, one-passes, option-all, optional-field-back, same-text, tested-back, text-back, text-passes, truth-back}
+use Rattle.envoy_types.specs.declared.keys.TheConstants.{CLUSTER, FROM_HEADERS, FROM_PARAMS, HTTP_URI, INLINE_STRING}
+use Rattle.envoy_types.specs.declared.keys.TheConstants.{LOCAL_JWKS, NAME, AUDIENCES, FORWARD, FORWARD_PAYLOAD_HEADER, ISSUER}
+use Rattle.envoy_types.specs.declared.keys.TheConstants.{PAYLOAD_IN_METADATA, REMOTE_JWKS, TIMEOUT, URI, VALUE_PREFIX}
+use Rattle.envoy_types.proofs.FieldsBack.{Passes, absent-passes, both, get-object, optional-passes, required-back}
+use Rattle.envoy_types.proofs.FieldsBack.{required-passes, strict-object}
+use Rattle.envoy_types.proofs.PartsBack.{Back, fixed-passes, listed-back, not-zero, one-passes, option-all, optional-field-back}
+use Rattle.envoy_types.proofs.PartsBack.{same-text, tested-back, text-back, text-passes, truth-back}
 
 -- ---- fields that are not written where they have their default
 
@@ -81,7 +87,8 @@ in-two : (places : List TokenPlace) → has_headers_first places ≡ true
 in-two [] h = refl
 in-two (place.Header name prefix ∷ places) h = ap (λ (ps : List TokenPlace). place.Header name prefix ∷ ps) (in-two places h)
 in-two (place.Param name ∷ places) h =
-    ap (λ (hs : List (List ℕ × List ℕ)). map header-place hs ++ place.Param name ∷ map param-place (filter_map param_of places)) (no-header places h)
+    let params = map param-place (filter_map param_of places) in
+    ap (λ (hs : List (List ℕ × List ℕ)). map header-place hs ++ place.Param name ∷ params) (no-header places h)
     ∙ ap (λ (ps : List TokenPlace). place.Param name ∷ ps) (all-params places h)
 
 no-default : (places : List TokenPlace) → not (length places == 0) ≡ true → or_default places ≡ places
@@ -110,7 +117,8 @@ header-back header h =
     record {
       passes = strict-object (NAME.now ∷ VALUE_PREFIX.now ∷ []) _ fs refl
           (both (required-passes NAME.now lower_token_faults (object_of fs) (string header.0) name known.passes) prefix.passes);
-      back = ap₂ (λ (a b : List ℕ). (a, b)) (required-back NAME.now text_in (object_of fs) (string header.0) name ∙ known.back) prefix.back;
+      back = ap₂ (λ (a b : List ℕ). (a, b))
+          (required-back NAME.now text_in (object_of fs) (string header.0) name ∙ known.back) prefix.back;
     }
 
 -- a list is read as its entries are, and each of these as told
@@ -146,7 +154,7 @@ module _ (d : Data) (places : List TokenPlace) (printable : places_are_printable
   headers-back =
       let three = and_parts _ _ (and_parts _ _ printable).0 in
       listed-back FROM_HEADERS.now from_header_faults header-in from_header_written (λ header. is_lower_token header.0) header-back d
-          (filter_map header_of places) headers three.1 (lower-headers places (and_parts _ _ three.0).1)
+      (filter_map header_of places) headers three.1 (lower-headers places (and_parts _ _ three.0).1)
 
   params-back : Back (listed_written FROM_PARAMS.now most_entries text_faults) (listed_written_in FROM_PARAMS.now text_in) d
       (filter_map param_of places)
@@ -197,9 +205,9 @@ uri-back uri =
     let fs = field CLUSTER.now (string KEYS_CLUSTER.now) ∷ field TIMEOUT.now (string KEYS_TIME.now) ∷ field URI.now (string uri) ∷ [] in
     let here = get-object URI.now fs refl in
     let cluster = required-passes CLUSTER.now (fixed_faults KEYS_CLUSTER.now) (object_of fs) (string KEYS_CLUSTER.now)
-        (get-object CLUSTER.now fs refl) (fixed-passes KEYS_CLUSTER.now) in
+    (get-object CLUSTER.now fs refl) (fixed-passes KEYS_CLUSTER.now) in
     let time = required-passes TIMEOUT.now (fixed_faults KEYS_TIME.now) (object_of fs) (string KEYS_TIME.now)
-        (get-object TIMEOUT.now fs refl) (fixed-passes KEYS_TIME.now) in
+    (get-object TIMEOUT.now fs refl) (fixed-passes KEYS_TIME.now) in
     let place = required-passes URI.now text_faults (object_of fs) (string uri) here (text-passes uri) in
     record {
       passes = strict-object (CLUSTER.now ∷ TIMEOUT.now ∷ URI.now ∷ []) _ fs refl (both cluster (both time place));
@@ -209,7 +217,8 @@ uri-back uri =
 remote-back : (uri : List ℕ) → Back remote_keys_faults remote_keys_in (sole_field HTTP_URI.now (keys_uri_written uri)) (Uri uri)
 unfolding remote_keys_faults remote_keys_in
 remote-back uri =
-    let known = sole-field-back HTTP_URI.now keys_uri_faults (required_written_in URI.now text_in) (keys_uri_written uri) uri (uri-back uri) in
+    let url_in = required_written_in URI.now text_in in
+    let known = sole-field-back HTTP_URI.now keys_uri_faults url_in (keys_uri_written uri) uri (uri-back uri) in
     record { passes = known.passes; back = ap (λ t. Uri t) known.back }
 
 record KeysBack (d : Data) (keys : Keys) : Type 0 where
@@ -333,9 +342,9 @@ module _ (rule : JwtRule) (fs : List Field) (found : Gets rule rule.keys fs) (sh
       let keys = keys-back (object_of fs) rule.keys found.locally found.remotely in
       let issuer = required-passes ISSUER.now text_faults (object_of fs) (string rule.issuer) found.issuer (text-passes rule.issuer) in
       let fixed = required-passes PAYLOAD_IN_METADATA.now (fixed_faults PAYLOAD.now) (object_of fs) (string PAYLOAD.now) found.payload
-          (fixed-passes PAYLOAD.now) in
+      (fixed-passes PAYLOAD.now) in
       strict-object rule-names _ fs found.known
-          (both keys.one (both tokens-pass (both issuer (both keys.locally (both fixed keys.remotely)))))
+      (both keys.one (both tokens-pass (both issuer (both keys.locally (both fixed keys.remotely)))))
 
   fields-back : (name : List ℕ) → provider_in name (object_of fs) ≡ record { name = name; rule = rule }
   unfolding provider_in provider_rule_in
@@ -346,7 +355,8 @@ module _ (rule : JwtRule) (fs : List Field) (found : Gets rule rule.keys fs) (sh
       rw (issuer, audiences-back.back, keys.back, where-found, forward-back.back, payload-back.back) refl
 
 -- a printable provider is read back under its name
-pub provider-back : (p : Provider) → provider_is_printable p ≡ true → Back (provider_faults p.name) (provider_in p.name) (provider_written p) p
+pub provider-back : (p : Provider) → provider_is_printable p ≡ true
+    → Back (provider_faults p.name) (provider_in p.name) (provider_written p) p
 unfolding provider_is_printable provider_written
 provider-back p h =
     let two = and_parts _ _ (and_parts _ _ h).0 in

@@ -6,7 +6,6 @@ use Rattle.mesh_doc.specs.Kinds.{text_in}
 use Rattle.mesh_doc.specs.Known.{is_known}
 use Rattle.mesh_doc.specs.Maps.{map_in}
 use Rattle.mesh_tree.specs.declared.tree.Tree.{Tree}
-use Rattle.envoy_types.proofs.BlocksBack.{block-back}
 use Rattle.envoy_types.proofs.FieldsBack.{Passes, both, found, strict-object}
 use Rattle.envoy_types.proofs.MapsBack.{map-back}
 use Rattle.envoy_types.proofs.ObjectsBack.{option-all, optional-at, optional-field, optional-means, required-at, required-field, text-at}
@@ -40,11 +39,11 @@ use Rattle.envoy_types.specs.declared.principal.PrincipalLeaf.{PrincipalLeaf}
 
 permissions-back : (trees : List (Tree PermissionLeaf)) → tree_list_is_printable permission_form trees ≡ true
     → Back (tree_list_faults permission_form) (tree_list_in permission_form) (list_written (tree_written permission_form) trees) trees
-permissions-back = tree-list-back permission_form permission-own-names permission-writes (permission-reads-back block-back)
+permissions-back = tree-list-back permission_form permission-own-names permission-writes permission-reads-back
 
 principals-back : (trees : List (Tree PrincipalLeaf)) → tree_list_is_printable principal_form trees ≡ true
     → Back (tree_list_faults principal_form) (tree_list_in principal_form) (list_written (tree_written principal_form) trees) trees
-principals-back = tree-list-back principal_form principal-own-names principal-writes (principal-reads-back block-back)
+principals-back = tree-list-back principal_form principal-own-names principal-writes principal-reads-back
 
 policy-path : {one other : RbacPolicy} → one.name ≡ other.name → one.permissions ≡ other.permissions → one.principals ≡ other.principals
     → one ≡ other

@@ -66,9 +66,9 @@ module _ (rbac_name : List ℕ) (authz : ExtAuthz) where
   unfolding enabled_faults enabled_written is_known
   enabled-passes h =
       strict-object (FILTER.now ∷ PATH.now ∷ VALUE.now ∷ []) _ asked refl
-          (both (required-at asked refl FILTER.now _ _ refl (fixed-passes rbac_name))
-          (both (required-at asked refl PATH.now _ _ refl (path-back authz.enabled_key).passes)
-          (required-at asked refl VALUE.now _ _ refl (value-back h).passes)))
+      (both (required-at asked refl FILTER.now _ _ refl (fixed-passes rbac_name))
+      (both (required-at asked refl PATH.now _ _ refl (path-back authz.enabled_key).passes)
+      (required-at asked refl VALUE.now _ _ refl (value-back h).passes)))
 
   key-back : enabled_key_in (enabled_written rbac_name authz) ≡ authz.enabled_key
   unfolding enabled_key_in enabled_written
@@ -97,7 +97,7 @@ server-back : (cluster uri : List ℕ) → Back server_uri_faults server_uri_in 
 unfolding server_uri_faults server_uri_in server_uri_written is_known
 server-back cluster uri =
     let fs : List Field =
-        field CLUSTER.now (string cluster) ∷ field TIMEOUT.now (string ANSWER_TIME.now) ∷ field URI.now (string uri) ∷ [] in
+    field CLUSTER.now (string cluster) ∷ field TIMEOUT.now (string ANSWER_TIME.now) ∷ field URI.now (string uri) ∷ [] in
     let first = required-field fs refl CLUSTER.now _ text_in _ _ refl (text-back cluster) in
     let last = required-field fs refl URI.now _ text_in _ _ refl (text-back uri) in
     record {
@@ -184,7 +184,7 @@ pub network-authz-back : (authz : ExtAuthz) → network_authz_is_printable authz
 unfolding network_authz_is_printable network_authz_written
 network-authz-back authz h =
     named-back NETWORK_AUTHZ_NAME.now network_authz_config_faults authz_config_in _ authz
-        (network-config-back authz.service authz (and_parts _ _ h).0 (and_parts _ _ h).1)
+    (network-config-back authz.service authz (and_parts _ _ h).0 (and_parts _ _ h).1)
 
 abbrev http_fields : ExtAuthz → List Field
 http_fields authz =
@@ -229,18 +229,18 @@ http-config-back (Grpc cluster) rest h =
     let authz : ExtAuthz = record rest { service = Grpc cluster } in
     let fs : List Field = http_fields authz in
     http-config-with authz h refl refl
-        (one-passes _ (object_of fs) (rw (get-object GRPC_SERVICE.now fs refl, get-object HTTP_SERVICE.now fs refl) refl))
-        (optional-at fs refl GRPC_SERVICE.now _ _ refl (grpc-back cluster).passes)
-        (absent-at fs refl HTTP_SERVICE.now _ refl)
-        (grpc-means fs refl cluster refl) refl refl refl
+    (one-passes _ (object_of fs) (rw (get-object GRPC_SERVICE.now fs refl, get-object HTTP_SERVICE.now fs refl) refl))
+    (optional-at fs refl GRPC_SERVICE.now _ _ refl (grpc-back cluster).passes)
+    (absent-at fs refl HTTP_SERVICE.now _ refl)
+    (grpc-means fs refl cluster refl) refl refl refl
 http-config-back (Http cluster uri) rest h =
     let authz : ExtAuthz = record rest { service = Http cluster uri } in
     let fs : List Field = http_fields authz in
     http-config-with authz h refl refl
-        (one-passes _ (object_of fs) (rw (get-object GRPC_SERVICE.now fs refl, get-object HTTP_SERVICE.now fs refl) refl))
-        (absent-at fs refl GRPC_SERVICE.now _ refl)
-        (optional-at fs refl HTTP_SERVICE.now _ _ refl (http-back cluster uri).passes)
-        (http-means fs refl cluster uri refl refl) refl refl refl
+    (one-passes _ (object_of fs) (rw (get-object GRPC_SERVICE.now fs refl, get-object HTTP_SERVICE.now fs refl) refl))
+    (absent-at fs refl GRPC_SERVICE.now _ refl)
+    (optional-at fs refl HTTP_SERVICE.now _ _ refl (http-back cluster uri).passes)
+    (http-means fs refl cluster uri refl refl) refl refl refl
 
 pub http-authz-back : (authz : ExtAuthz) → http_authz_is_printable authz ≡ true
     → Back http_authz_faults authz_in (http_authz_written authz) authz

@@ -17,7 +17,7 @@ use Rattle.envoy_types.specs.ChainForms.{are_distinct, chain_faults, chain_in, c
 use Rattle.envoy_types.specs.ChainForms.{clashes_with_one, duplicates, match_faults, match_in, match_is_printable, match_written}
 use Rattle.envoy_types.specs.ChainForms.{port_is_printable, socket_field, transport_faults, transport_in, transport_word, transport_written}
 use Rattle.envoy_types.specs.FilterForms.{body_in, body_written}
-use Rattle.envoy_types.specs.ProviderForms.{is_short_list}
+use Rattle.envoy_types.specs.SmallForms.{is_short_list}
 use Rattle.envoy_types.specs.SmallForms.{is_within, is_written, most_entries, port_faults}
 use Rattle.envoy_types.specs.SocketForms.{socket_faults, socket_written}
 use Rattle.envoy_types.specs.WrittenFields.{Field, field, list_field, number_written, object_of, optional_field}
@@ -56,16 +56,16 @@ match-back : (matching : ChainMatch) → match_is_printable matching ≡ true
 unfolding match_faults match_in match_written match_is_printable is_known
 match-back matching h =
     let fs : List Field =
-        list_field APPLICATION_PROTOCOLS.now string matching.alpn
-        ∷ optional_field DESTINATION_PORT.now number_written matching.port
-        ∷ optional_field TRANSPORT_PROTOCOL.now transport_written matching.transport
-        ∷ [] in
+    list_field APPLICATION_PROTOCOLS.now string matching.alpn
+    ∷ optional_field DESTINATION_PORT.now number_written matching.port
+    ∷ optional_field TRANSPORT_PROTOCOL.now transport_written matching.transport
+    ∷ [] in
     let names = listed-back APPLICATION_PROTOCOLS.now text_faults text_in string (λ _. true) (λ t _. text-back t) (object_of fs)
-        matching.alpn (get-object APPLICATION_PROTOCOLS.now fs refl) (and_parts _ _ h).1 (any-entry matching.alpn) in
+    matching.alpn (get-object APPLICATION_PROTOCOLS.now fs refl) (and_parts _ _ h).1 (any-entry matching.alpn) in
     let port = optional-field fs refl DESTINATION_PORT.now port_faults number_in number_written (is_within 1 65535)
-        (number-within-back 1 65535) matching.port refl (all-ports matching.port (and_parts _ _ h).0) in
+    (number-within-back 1 65535) matching.port refl (all-ports matching.port (and_parts _ _ h).0) in
     let protocol = optional-field fs refl TRANSPORT_PROTOCOL.now transport_faults transport_in transport_written (λ _. true)
-        (λ t _. transport-back t) matching.transport refl (any-option matching.transport) in
+    (λ t _. transport-back t) matching.transport refl (any-option matching.transport) in
     record {
       passes = strict-object (APPLICATION_PROTOCOLS.now ∷ DESTINATION_PORT.now ∷ TRANSPORT_PROTOCOL.now ∷ []) _ fs refl
           (both names.passes (both port.passes protocol.passes));
@@ -134,8 +134,8 @@ one-more : (earlier : List FilterChain) (chain : FilterChain) (chains : List Fil
     → AreApart (earlier ++ chain ∷ []) chains
 one-more earlier chain [] h apart = tt
 one-more earlier chain (later ∷ chains) h apart = (
-    none-more (λ other. clashes other.matching later.matching) earlier chain apart.0 (not-true _ (and_parts _ _ h).0),
-    one-more earlier chain chains (and_parts _ _ h).1 apart.1,
+  none-more (λ other. clashes other.matching later.matching) earlier chain apart.0 (not-true _ (and_parts _ _ h).0),
+  one-more earlier chain chains (and_parts _ _ h).1 apart.1,
 )
 
 apart-from : (earlier : List FilterChain) (index : ℕ) (chains : List FilterChain) (at : Steps) → are_distinct chains ≡ true

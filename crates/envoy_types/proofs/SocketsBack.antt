@@ -36,23 +36,23 @@ certificates-passes =
     let roots : Data = secret_written MESH_ROOTS.now in
     let fs : List Field = field TLS_CERTIFICATES.now (array (items_of (own ∷ []))) ∷ field VALIDATION_CONTEXT.now roots ∷ [] in
     strict-object (TLS_CERTIFICATES.now ∷ VALIDATION_CONTEXT.now ∷ []) _ fs refl
-        (both
-        (required-at fs refl TLS_CERTIFICATES.now _ _ refl (sole-back _ _ own own (passing (secret-passes OWN_CERTIFICATE.now))).passes)
-        (required-at fs refl VALIDATION_CONTEXT.now _ _ refl (secret-passes MESH_ROOTS.now)))
+    (both
+    (required-at fs refl TLS_CERTIFICATES.now _ _ refl (sole-back _ _ own own (passing (secret-passes OWN_CERTIFICATE.now))).passes)
+    (required-at fs refl VALIDATION_CONTEXT.now _ _ refl (secret-passes MESH_ROOTS.now)))
 
 context-passes : Passes tls_context_faults (config_written TLS_SOCKET_TYPE.now
     (field COMMON_TLS_CONTEXT.now certificates_written ∷ field REQUIRE_CLIENT_CERTIFICATE.now (boolean true) ∷ []))
 unfolding tls_context_faults is_known
 context-passes =
     let fs : List Field =
-        field TYPE.now (string TLS_SOCKET_TYPE.now)
-        ∷ field COMMON_TLS_CONTEXT.now certificates_written
-        ∷ field REQUIRE_CLIENT_CERTIFICATE.now (boolean true)
-        ∷ [] in
+    field TYPE.now (string TLS_SOCKET_TYPE.now)
+    ∷ field COMMON_TLS_CONTEXT.now certificates_written
+    ∷ field REQUIRE_CLIENT_CERTIFICATE.now (boolean true)
+    ∷ [] in
     strict-object (TYPE.now ∷ COMMON_TLS_CONTEXT.now ∷ REQUIRE_CLIENT_CERTIFICATE.now ∷ []) _ fs refl
-        (both (required-at fs refl TYPE.now _ _ refl (fixed-passes TLS_SOCKET_TYPE.now))
-        (both (required-at fs refl COMMON_TLS_CONTEXT.now _ _ refl certificates-passes)
-        (required-at fs refl REQUIRE_CLIENT_CERTIFICATE.now _ _ refl true-passes)))
+    (both (required-at fs refl TYPE.now _ _ refl (fixed-passes TLS_SOCKET_TYPE.now))
+    (both (required-at fs refl COMMON_TLS_CONTEXT.now _ _ refl certificates-passes)
+    (required-at fs refl REQUIRE_CLIENT_CERTIFICATE.now _ _ refl true-passes)))
 
 pub socket-passes : Passes socket_faults socket_written
 unfolding socket_written

@@ -3,32 +3,23 @@ ghost use Rattle.std.specs.Prelude.{◌≡◌, [], ◌∷◌, IfOk, OnOk};
 ghost use Rattle.serde_json.specs.Data.{no_members, object, string};
 ghost use Rattle.serde_json.specs.View.{view};
 ghost use Rattle.envoy_types.specs.WrittenFields as form;
+ghost use Rattle.leaf_json.specs.Fields.{members_of};
 
 use envoy_types::keys::{NAME, TYPE, TYPED_CONFIG};
 use mesh_text::Memory;
 use serde_json::{Map, Value, json};
 use std::alloc::Global;
-use std::marker::Model;
 
-/// An object that is being written. Contracts see its members.
+/// An object that is being written. Contracts speak of its members so far.
 #[derive(Drop)]
 pub struct Fields {
     members: Map<String, Value>,
 }
 
-impl Model for Fields {
-    ghost use Rattle.serde_json.specs.Data.{Members};
-    ghost use Rattle.serde_json.specs.View.{members_view};
-
-    ghost Value = { Members };
-
-    ghost view = { λ f. members_view f.members.entries };
-}
-
 impl Fields {
     /// The empty object, which takes no memory.
     pub fn new(alloc: Global) -> Fields
-        ensures { result ≡ no_members }
+        ensures { members_of result ≡ no_members }
     {
         Fields {
             members: Map::new(alloc),
@@ -36,14 +27,14 @@ impl Fields {
     }
 
     pub fn put(&mut self, alloc: Global, name: &str, value: Value) -> Result<(), Memory>
-        ensures { OnOk result (self.new ≡ form.with_field self.old (form.field name.now (view value))) }
+        ensures { OnOk result (members_of self.new ≡ form.with_field (members_of self.old) (form.field name.now (view value))) }
     {
         serde_json::put(&mut self.members, alloc, name, value)?;
         Ok(())
     }
 
     pub fn put_text(&mut self, alloc: Global, name: &str, text: &str) -> Result<(), Memory>
-        ensures { OnOk result (self.new ≡ form.with_field self.old (form.field name.now (string text.now))) }
+        ensures { OnOk result (members_of self.new ≡ form.with_field (members_of self.old) (form.field name.now (string text.now))) }
     {
         let value = text_value(alloc, text)?;
         self.put(alloc, name, value)
@@ -51,7 +42,7 @@ impl Fields {
 
     /// A text, unless it is empty.
     pub fn put_filled(&mut self, alloc: Global, name: &str, text: &str) -> Result<(), Memory>
-        ensures { OnOk result (self.new ≡ form.with_field self.old (form.text_field name.now text.now)) }
+        ensures { OnOk result (members_of self.new ≡ form.with_field (members_of self.old) (form.text_field name.now text.now)) }
     {
         if text.is_empty() {
             Ok(())
@@ -62,7 +53,7 @@ impl Fields {
 
     /// `true`, unless it is `false`.
     pub fn put_true(&mut self, alloc: Global, name: &str, truth: bool) -> Result<(), Memory>
-        ensures { OnOk result (self.new ≡ form.with_field self.old (form.truth_field name.now truth)) }
+        ensures { OnOk result (members_of self.new ≡ form.with_field (members_of self.old) (form.truth_field name.now truth)) }
     {
         if truth {
             self.put(alloc, name, Value::Bool(true))
@@ -72,7 +63,7 @@ impl Fields {
     }
 
     pub fn into_value(self) -> Value
-        ensures { view result ≡ object self }
+        ensures { view result ≡ object (members_of self) }
     {
         let Fields { members } = self;
         Value::Object(members)
@@ -113,7 +104,7 @@ pub fn named_value(alloc: Global, name: &str, config: Value) -> Result<Value, Me
 
 /// A configuration by its type URL, to which its fields are added.
 pub fn config_of(alloc: Global, type_url: &str) -> Result<Fields, Memory>
-    ensures { IfOk result (λ f. f ≡ form.fields_onto no_members (form.field TYPE.now (string type_url.now) ∷ [])) }
+    ensures { IfOk result (λ f. members_of f ≡ form.fields_onto no_members (form.field TYPE.now (string type_url.now) ∷ [])) }
 {
     let mut fields = Fields::new(alloc);
     fields.put_text(alloc, TYPE, type_url)?;

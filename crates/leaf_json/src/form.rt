@@ -20,8 +20,8 @@ pub enum Word {
 pub trait Form: Leaf {
     ghost use Rattle.serde_json.specs.View.{view};
     ghost use Rattle.mesh_doc.specs.Known.{names_of};
-    ghost use Rattle.envoy_types.specs.TreeForms.{TreeForm, known_names};
-    ghost use Rattle.leaf_json.specs.Form.{HasOwnNames, ReadsBack, WritesLeaf, word_of};
+    ghost use Rattle.envoy_types.specs.TreeForms.{HasOwnNames, ReadsBack, TreeForm, WritesLeaf, known_names};
+    ghost use Rattle.leaf_json.specs.Form.{word_of};
 
     /// The words of the kind, and the form of its leaves: what is written, what can be wrong, and what it means.
     ghost form: { TreeForm Self };

@@ -6,7 +6,6 @@ mod blocks;
 mod fields;
 mod form;
 mod headers;
-mod lists;
 mod permission;
 mod principal;
 mod strings;
@@ -15,7 +14,6 @@ mod values;
 
 pub use fields::{Fields, config_of, named_value, number_value, sole_field, text_value};
 pub use form::{Form, Word};
-pub use lists::{Named, Spelled, list_value, map_value, values_of};
 pub use strings::string_to_value;
 pub use trees::{tree_list_value, tree_to_value};
 pub use values::segment_value;

@@ -12,7 +12,7 @@ use envoy_types::keys::{
     AND_RULES, DESTINATION_IP, DESTINATION_PORT, HEADER, NOT_RULE, OR_RULES, PATH, PATH_TEMPLATE,
     RULES, SERVER_NAME, URI_TEMPLATE, URL_PATH,
 };
-use envoy_types::whole::PermissionLeaf;
+use envoy_types::PermissionLeaf;
 use envoy_types::{URI_TEMPLATE_NAME, URI_TEMPLATE_TYPE};
 use mesh_text::Memory;
 use serde_json::Value;
@@ -23,7 +23,7 @@ const KNOWN: &str = "and_rules or_rules not_rule any destination_ip destination_
 
 impl Form for PermissionLeaf {
     ghost use Rattle.envoy_types.specs.PermissionForms.{permission_form};
-    ghost use Rattle.leaf_json.proofs.PermissionLaws.{permission_names, permission_one_field, permission_reads_back};
+    ghost use Rattle.leaf_json.specs.PermissionLaws.{permission_names, permission_one_field, permission_reads_back};
 
     ghost form = { permission_form };
 

@@ -4,9 +4,8 @@ ghost use Rattle.serde_json.specs.View.{view};
 ghost use Rattle.envoy_types.specs.StringForms.{match_key, string_written};
 
 use crate::fields::Fields;
-use crate::lists::Spelled;
 use envoy_types::keys::{CONTAINS, EXACT, IGNORE_CASE, PREFIX, SUFFIX};
-use envoy_types::whole::{MatchKind, StringMatcher};
+use envoy_types::{MatchKind, StringMatcher};
 use mesh_text::Memory;
 use serde_json::Value;
 use std::alloc::Global;
@@ -20,16 +19,6 @@ pub fn string_to_value(alloc: Global, matcher: &StringMatcher) -> Result<Value, 
     fields.put_text(alloc, match_key(matcher.kind), &matcher.text)?;
     fields.put_true(alloc, IGNORE_CASE, matcher.ignore_case)?;
     Ok(fields.into_value())
-}
-
-impl Spelled for StringMatcher {
-    ghost use Rattle.envoy_types.specs.StringForms.{string_written};
-
-    ghost written = { string_written };
-
-    fn to_value(&self, alloc: Global) -> Result<Value, Memory> {
-        string_to_value(alloc, self)
-    }
 }
 
 fn match_key(kind: MatchKind) -> &'static str

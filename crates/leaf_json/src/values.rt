@@ -11,7 +11,7 @@ use envoy_types::fixed::PAYLOAD;
 use envoy_types::keys::{
     FILTER, KEY, LIST_MATCH, ONE_OF, PATH, PRESENT_MATCH, STRING_MATCH, VALUE,
 };
-use envoy_types::whole::ValueMatcher;
+use envoy_types::ValueMatcher;
 use mesh_text::{Memory, Text};
 use serde_json::Value;
 use std::alloc::Global;

@@ -1,5 +1,6 @@
 -- The laws of the leaves of permissions.
 use Rattle.std.specs.Prelude.{◌≡◌, true, refl}
+use Rattle.mesh_doc.specs.Known.{is_known}
 use Rattle.envoy_types.specs.PermissionForms.{permission_form, permission_leaf_written}
 use Rattle.envoy_types.specs.TreeForms.{HasOwnNames, ReadsBack, WritesLeaf}
 use Rattle.envoy_types.specs.declared.permission.PermissionLeaf.{PermissionLeaf}
@@ -10,7 +11,7 @@ pub permission_names : HasOwnNames permission_form
 permission_names = refl
 
 pub permission_one_field : (l : PermissionLeaf) → WritesLeaf permission_form l
-unfolding permission_leaf_written
+unfolding permission_leaf_written is_known
 permission_one_field (leaf.DestinationIp block) = (DESTINATION_IP.now, _, refl, refl)
 permission_one_field (leaf.DestinationPort port) = (DESTINATION_PORT.now, _, refl, refl)
 permission_one_field (leaf.Header h) = (HEADER.now, _, refl, refl)

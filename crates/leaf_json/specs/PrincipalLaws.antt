@@ -1,5 +1,6 @@
 -- The laws of the leaves of principals.
 use Rattle.std.specs.Prelude.{◌≡◌, true, refl}
+use Rattle.mesh_doc.specs.Known.{is_known}
 use Rattle.envoy_types.specs.PrincipalForms.{principal_form, principal_leaf_written}
 use Rattle.envoy_types.specs.TreeForms.{HasOwnNames, ReadsBack, WritesLeaf}
 use Rattle.envoy_types.specs.declared.principal.PrincipalLeaf.{PrincipalLeaf}
@@ -10,7 +11,7 @@ pub principal_names : HasOwnNames principal_form
 principal_names = refl
 
 pub principal_one_field : (l : PrincipalLeaf) → WritesLeaf principal_form l
-unfolding principal_leaf_written
+unfolding principal_leaf_written is_known
 principal_one_field (leaf.Authenticated name) = (AUTHENTICATED.now, _, refl, refl)
 principal_one_field (leaf.DirectRemoteIp block) = (DIRECT_REMOTE_IP.now, _, refl, refl)
 principal_one_field (leaf.RemoteIp block) = (REMOTE_IP.now, _, refl, refl)

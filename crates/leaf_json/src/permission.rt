@@ -27,6 +27,7 @@ impl Form for PermissionLeaf {
 
     ghost form = { permission_form };
 
+    #[tactic(auto, unfolding(mesh_doc::specs::Known::names_of))]
     fn known() -> &'static str {
         KNOWN
     }

@@ -32,6 +32,7 @@ impl Form for PrincipalLeaf {
 
     ghost form = { principal_form };
 
+    #[tactic(auto, unfolding(mesh_doc::specs::Known::names_of))]
     fn known() -> &'static str {
         KNOWN
     }

@@ -1,7 +1,5 @@
 pub mod Fields
 pub mod Form
-pub mod PermissionLaws
-pub mod PrincipalLaws
 pub use Rattle.serde_json.specs.View
 pub use Rattle.envoy_types.specs.StringForms
 pub use Rattle.envoy_types.specs.TreeForms

@@ -13,6 +13,7 @@ use mesh_text::Memory;
 use serde_json::Value;
 use std::alloc::Global;
 
+/// A test of a header (Envoy v3 API, `config.route.v3.HeaderMatcher`).
 #[tactic(auto, unfolding(envoy_types::specs::HeaderForms::header_written))]
 pub(crate) fn header_value(alloc: Global, header: &HeaderMatch) -> Result<Value, Memory>
     ensures { IfOk result (λ v. view v ≡ header_written header.now) }
@@ -23,6 +24,7 @@ pub(crate) fn header_value(alloc: Global, header: &HeaderMatch) -> Result<Value,
     Ok(fields.into_value())
 }
 
+// The test, beside the name.
 fn put_test(alloc: Global, fields: &mut Fields, test: &HeaderTest) -> Result<(), Memory>
     ensures { OnOk result (members_of fields.new ≡ with_field (members_of fields.old) (header_test_field test.now)) }
 {

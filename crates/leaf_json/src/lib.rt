@@ -1,5 +1,6 @@
 //! The JSON of string matchers, leaves and matcher trees, written (Envoy v3 API reference; docs/FORMATS.md has the forms),
-//! and the words by which every part of a listener is written.
+//! and the words by which every part of a listener is written. No field that has its default is written, and the members of
+//! each object stand in byte order of their names.
 #![tactic(auto)]
 
 mod blocks;

@@ -24,11 +24,12 @@ use serde_json::Value;
 use std::alloc::Global;
 
 /// The names of all alternatives of a principal.
-const KNOWN: &str = "and_ids or_ids not_id any authenticated direct_remote_ip header metadata remote_ip";
+const KNOWN: &str =
+    "and_ids or_ids not_id any authenticated direct_remote_ip header metadata remote_ip";
 
 impl Form for PrincipalLeaf {
     ghost use Rattle.envoy_types.specs.PrincipalForms.{principal_form};
-    ghost use Rattle.leaf_json.specs.PrincipalLaws.{principal_names, principal_one_field, principal_reads_back};
+    ghost use Rattle.envoy_types.proofs.PrincipalsBack.{principal-own-names, principal-reads-back, principal-writes};
 
     ghost form = { principal_form };
 
@@ -50,7 +51,11 @@ impl Form for PrincipalLeaf {
     fn write(&self, alloc: Global) -> Result<Value, Memory> {
         match self {
             PrincipalLeaf::Authenticated(name) => {
-                sole_field(alloc, AUTHENTICATED, authenticated_value(alloc, name.as_ref())?)
+                sole_field(
+                    alloc,
+                    AUTHENTICATED,
+                    authenticated_value(alloc, name.as_ref())?,
+                )
             }
             PrincipalLeaf::DirectRemoteIp(block) => {
                 sole_field(alloc, DIRECT_REMOTE_IP, block_value(alloc, block)?)
@@ -67,13 +72,14 @@ impl Form for PrincipalLeaf {
         }
     }
 
-    ghost own_names = { principal_names };
+    ghost own_names = { principal-own-names };
 
-    ghost one_field = { principal_one_field };
+    ghost one_field = { principal-writes };
 
-    ghost reads_back = { principal_reads_back };
+    ghost reads_back = { principal-reads-back };
 }
 
+// A peer that is known (`Principal.Authenticated`).
 #[tactic(auto, unfolding(envoy_types::specs::PrincipalForms::authenticated_written))]
 fn authenticated_value(alloc: Global, name: Option<&StringMatcher>) -> Result<Value, Memory>
     ensures { IfOk result (λ v. view v ≡ authenticated_written (option_copied name.entry)) }

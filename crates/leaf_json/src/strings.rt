@@ -10,7 +10,8 @@ use mesh_text::Memory;
 use serde_json::Value;
 use std::alloc::Global;
 
-/// The value that spells a matcher.
+/// The value that spells a matcher (Envoy v3 API, `type.matcher.v3.StringMatcher`), with `ignore_case` only where it is
+/// `true`; `Memory` where there is no room.
 #[tactic(auto, unfolding(envoy_types::specs::StringForms::string_written))]
 pub fn string_to_value(alloc: Global, matcher: &StringMatcher) -> Result<Value, Memory>
     ensures { IfOk result (λ v. view v ≡ string_written matcher.now) }
@@ -21,6 +22,7 @@ pub fn string_to_value(alloc: Global, matcher: &StringMatcher) -> Result<Value, 
     Ok(fields.into_value())
 }
 
+// The alternative of a kind.
 fn match_key(kind: MatchKind) -> &'static str
     ensures { result.now ≡ match_key kind }
 {

@@ -1,8 +1,8 @@
 -- What is written of external authorization filters is read back.
-use Rattle.std.proofs.Common.{◌≡◌, ℕ, Bool, true, false, List, [], ◌∷◌, ◌++◌, Some, None, unwrap_or, refl, ap, ap₂, ◌∙◌}
+use Rattle.std.proofs.Common.{◌≡◌, ℕ, true, List, [], ◌∷◌, Some, None, unwrap_or, refl, ap, ap₂, ◌∙◌}
 use Rattle.std.proofs.lemmas.Bool.{and_parts}
 use Rattle.std.specs.List.{list_all}
-use Rattle.serde_json.specs.Data.{Data, string}
+use Rattle.serde_json.specs.Data.{string}
 use Rattle.mesh_doc.specs.Fields.{optional_written, required_written_in}
 use Rattle.mesh_doc.specs.Kinds.{text_faults, text_in}
 use Rattle.mesh_doc.specs.Known.{is_known}
@@ -10,14 +10,15 @@ use Rattle.envoy_types.proofs.FieldsBack.{Passes, both, found, get-object, stric
 use Rattle.envoy_types.proofs.ObjectsBack.{absent-at, optional-at, optional-means, required-at, required-field, required-means, truth-at}
 use Rattle.envoy_types.proofs.PartsBack.{Back, fixed-passes, named-back, one-passes, sole-back, text-back, text-passes}
 use Rattle.envoy_types.proofs.StringsBack.{string-back}
-use Rattle.envoy_types.specs.AuthzForms.{authz_config_in, authz_fields, authz_in, enabled_faults, enabled_in, enabled_key_in}
+use Rattle.envoy_types.proofs.ValuesBack.{segment-back}
+use Rattle.envoy_types.specs.AuthzForms.{authz_config_in, authz_in, enabled_faults, enabled_in, enabled_key_in}
 use Rattle.envoy_types.specs.AuthzForms.{enabled_value_faults, enabled_written, envoy_grpc_faults, grpc_service_faults, grpc_service_in}
 use Rattle.envoy_types.specs.AuthzForms.{grpc_written, http_authz_config_faults, http_authz_faults, http_authz_is_printable}
 use Rattle.envoy_types.specs.AuthzForms.{http_authz_written, http_service_faults, http_service_in, is_grpc, network_authz_config_faults}
 use Rattle.envoy_types.specs.AuthzForms.{network_authz_faults, network_authz_is_printable, network_authz_written, server_uri_faults}
 use Rattle.envoy_types.specs.AuthzForms.{server_uri_in, server_uri_written, service_field, service_in}
 use Rattle.envoy_types.specs.SmallForms.{one_of, sole_in, sole_list}
-use Rattle.envoy_types.specs.StringForms.{string_faults, string_in, string_is_printable, string_written}
+use Rattle.envoy_types.specs.StringForms.{string_in, string_is_printable, string_written}
 use Rattle.envoy_types.specs.ValueForms.{segment_faults, segment_in, segment_written}
 use Rattle.envoy_types.specs.WrittenFields.{Field, are_different, field, field_names, list_written, object_of, sole_field, truth_field}
 use Rattle.envoy_types.specs.declared.authz.AuthService.{AuthService}
@@ -25,24 +26,17 @@ use Rattle.envoy_types.specs.declared.authz.AuthService.TheVariants.{Http, Grpc}
 use Rattle.envoy_types.specs.declared.authz.ExtAuthz.{ExtAuthz}
 use Rattle.envoy_types.specs.declared.fixed.TheConstants.{ANSWER_TIME, API_VERSION, TCP_PREFIX}
 use Rattle.envoy_types.specs.declared.keys.TheConstants.{CLUSTER, CLUSTER_NAME, ENVOY_GRPC, FAILURE_MODE_ALLOW, FILTER}
-use Rattle.envoy_types.specs.declared.keys.TheConstants.{FILTER_ENABLED_METADATA, GRPC_SERVICE, HTTP_SERVICE, KEY, PATH, SERVER_URI}
+use Rattle.envoy_types.specs.declared.keys.TheConstants.{FILTER_ENABLED_METADATA, GRPC_SERVICE, HTTP_SERVICE, PATH, SERVER_URI}
 use Rattle.envoy_types.specs.declared.keys.TheConstants.{STAT_PREFIX, STRING_MATCH, TIMEOUT, TRANSPORT_API_VERSION, TYPE, URI, VALUE}
 use Rattle.envoy_types.specs.declared.names.TheConstants.{HTTP_AUTHZ_NAME, HTTP_AUTHZ_TYPE, HTTP_RBAC_NAME}
 use Rattle.envoy_types.specs.declared.names.TheConstants.{NETWORK_AUTHZ_NAME, NETWORK_AUTHZ_TYPE, NETWORK_RBAC_NAME}
 
 -- ---- when the authorizer is asked
 
-segment-back : (key : List ℕ) → Back (segment_faults text_faults) segment_in (segment_written key) key
-unfolding segment_faults segment_in is_known
-segment-back key =
-    let fs : List Field = field KEY.now (string key) ∷ [] in
-    let found = required-field fs refl KEY.now _ text_in _ _ refl (text-back key) in
-    record { passes = strict-object (KEY.now ∷ []) _ fs refl found.passes; back = found.back }
-
 path-back : (key : List ℕ)
     → Back (sole_list (segment_faults text_faults)) (sole_in segment_in) (list_written segment_written (key ∷ [])) key
 unfolding list_written
-path-back key = sole-back (segment_faults text_faults) segment_in (segment_written key) key (segment-back key)
+path-back key = sole-back (segment_faults text_faults) segment_in (segment_written key) key (segment-back text_faults key (text-passes key))
 
 module _ (rbac_name : List ℕ) (authz : ExtAuthz) where
   -- the fields of `filter_enabled_metadata`
@@ -66,9 +60,9 @@ module _ (rbac_name : List ℕ) (authz : ExtAuthz) where
   unfolding enabled_faults enabled_written is_known
   enabled-passes h =
       strict-object (FILTER.now ∷ PATH.now ∷ VALUE.now ∷ []) _ asked refl
-          (both (required-at asked refl FILTER.now _ _ refl (fixed-passes rbac_name))
-          (both (required-at asked refl PATH.now _ _ refl (path-back authz.enabled_key).passes)
-          (required-at asked refl VALUE.now _ _ refl (value-back h).passes)))
+      (both (required-at asked refl FILTER.now _ _ refl (fixed-passes rbac_name))
+      (both (required-at asked refl PATH.now _ _ refl (path-back authz.enabled_key).passes)
+      (required-at asked refl VALUE.now _ _ refl (value-back h).passes)))
 
   key-back : enabled_key_in (enabled_written rbac_name authz) ≡ authz.enabled_key
   unfolding enabled_key_in enabled_written
@@ -97,7 +91,7 @@ server-back : (cluster uri : List ℕ) → Back server_uri_faults server_uri_in 
 unfolding server_uri_faults server_uri_in server_uri_written is_known
 server-back cluster uri =
     let fs : List Field =
-        field CLUSTER.now (string cluster) ∷ field TIMEOUT.now (string ANSWER_TIME.now) ∷ field URI.now (string uri) ∷ [] in
+    field CLUSTER.now (string cluster) ∷ field TIMEOUT.now (string ANSWER_TIME.now) ∷ field URI.now (string uri) ∷ [] in
     let first = required-field fs refl CLUSTER.now _ text_in _ _ refl (text-back cluster) in
     let last = required-field fs refl URI.now _ text_in _ _ refl (text-back uri) in
     record {
@@ -184,7 +178,7 @@ pub network-authz-back : (authz : ExtAuthz) → network_authz_is_printable authz
 unfolding network_authz_is_printable network_authz_written
 network-authz-back authz h =
     named-back NETWORK_AUTHZ_NAME.now network_authz_config_faults authz_config_in _ authz
-        (network-config-back authz.service authz (and_parts _ _ h).0 (and_parts _ _ h).1)
+    (network-config-back authz.service authz (and_parts _ _ h).0 (and_parts _ _ h).1)
 
 abbrev http_fields : ExtAuthz → List Field
 http_fields authz =
@@ -229,18 +223,18 @@ http-config-back (Grpc cluster) rest h =
     let authz : ExtAuthz = record rest { service = Grpc cluster } in
     let fs : List Field = http_fields authz in
     http-config-with authz h refl refl
-        (one-passes _ (object_of fs) (rw (get-object GRPC_SERVICE.now fs refl, get-object HTTP_SERVICE.now fs refl) refl))
-        (optional-at fs refl GRPC_SERVICE.now _ _ refl (grpc-back cluster).passes)
-        (absent-at fs refl HTTP_SERVICE.now _ refl)
-        (grpc-means fs refl cluster refl) refl refl refl
+    (one-passes _ (object_of fs) (rw (get-object GRPC_SERVICE.now fs refl, get-object HTTP_SERVICE.now fs refl) refl))
+    (optional-at fs refl GRPC_SERVICE.now _ _ refl (grpc-back cluster).passes)
+    (absent-at fs refl HTTP_SERVICE.now _ refl)
+    (grpc-means fs refl cluster refl) refl refl refl
 http-config-back (Http cluster uri) rest h =
     let authz : ExtAuthz = record rest { service = Http cluster uri } in
     let fs : List Field = http_fields authz in
     http-config-with authz h refl refl
-        (one-passes _ (object_of fs) (rw (get-object GRPC_SERVICE.now fs refl, get-object HTTP_SERVICE.now fs refl) refl))
-        (absent-at fs refl GRPC_SERVICE.now _ refl)
-        (optional-at fs refl HTTP_SERVICE.now _ _ refl (http-back cluster uri).passes)
-        (http-means fs refl cluster uri refl refl) refl refl refl
+    (one-passes _ (object_of fs) (rw (get-object GRPC_SERVICE.now fs refl, get-object HTTP_SERVICE.now fs refl) refl))
+    (absent-at fs refl GRPC_SERVICE.now _ refl)
+    (optional-at fs refl HTTP_SERVICE.now _ _ refl (http-back cluster uri).passes)
+    (http-means fs refl cluster uri refl refl) refl refl refl
 
 pub http-authz-back : (authz : ExtAuthz) → http_authz_is_printable authz ≡ true
     → Back http_authz_faults authz_in (http_authz_written authz) authz

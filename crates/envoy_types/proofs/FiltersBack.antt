@@ -1,7 +1,6 @@
 -- What is written of the filters of a chain is read back: the TCP proxy with the filters before it, and the connection manager.
-use Rattle.std.proofs.Common.{◌≡◌, ℕ, ◌+◌, Bool, true, false, ◌||◌, nat_le, List, [], ◌∷◌, ◌++◌, length, map, refl, sym, subst, ap, ap₂, ◌∙◌}
+use Rattle.std.proofs.Common.{◌≡◌, ℕ, ◌+◌, true, false, ◌||◌, nat_le, List, [], ◌∷◌, ◌++◌, length, map, refl, sym, subst, ap, ap₂, ◌∙◌}
 use Rattle.std.proofs.lemmas.Bool.{and_parts}
-use Rattle.std.proofs.lemmas.List.{length-append}
 use Rattle.std.specs.Str.{bytes_eq}
 use Rattle.serde_json.specs.Data.{Data, array, string}
 use Rattle.serde_json.specs.View.{items_of as items}
@@ -13,10 +12,10 @@ use Rattle.envoy_types.proofs.AuthzBack.{http-authz-back, network-authz-back}
 use Rattle.envoy_types.proofs.EndingsBack.{ending-length, ending-passes, front-back, front-ending, items-pass, last-back, last-ending}
 use Rattle.envoy_types.proofs.FieldsBack.{Passes, behind, both, demanded, strict-object}
 use Rattle.envoy_types.proofs.JwtBack.{jwt-back}
-use Rattle.envoy_types.proofs.ObjectsBack.{given-passes, passing, required-at, required-field, required-means}
+use Rattle.envoy_types.proofs.ObjectsBack.{given-passes, passing, required-at, required-field}
 use Rattle.envoy_types.proofs.PartsBack.{Back, fixed-passes, list-passes, named-back, named-passes, plain-passes, sole-back, text-back}
 use Rattle.envoy_types.proofs.RbacBack.{http-rbac-back, network-rbac-back}
-use Rattle.envoy_types.specs.AuthzForms.{authz_in, http_authz_written, network_authz_written}
+use Rattle.envoy_types.specs.AuthzForms.{http_authz_written, network_authz_written}
 use Rattle.envoy_types.specs.FilterForms.{are_http_filters, are_tcp_filters, body_entries_faults, body_faults, body_in, body_is_printable}
 use Rattle.envoy_types.specs.FilterForms.{body_written, filters_are_printable, http_filter_faults, http_filter_in, http_filter_is_printable}
 use Rattle.envoy_types.specs.FilterForms.{http_filter_written, http_filters_faults, http_filters_written, is_http_filter, is_manager}
@@ -26,11 +25,11 @@ use Rattle.envoy_types.specs.FilterForms.{network_filter_written, proxy_config_f
 use Rattle.envoy_types.specs.FilterForms.{route_action_faults, route_config_faults, route_config_written, route_faults, route_match_faults}
 use Rattle.envoy_types.specs.FilterForms.{route_name_in, route_written, router_faults, router_written, virtual_host_faults}
 use Rattle.envoy_types.specs.FilterForms.{virtual_host_written}
-use Rattle.envoy_types.specs.JwtForms.{jwt_in, jwt_written}
-use Rattle.envoy_types.specs.RbacForms.{http_rbac_written, network_rbac_written, rbac_in}
-use Rattle.envoy_types.specs.SmallForms.{ending_with, fixed_faults, front_in, front_of, is_named, last_in, last_of, most_entries}
+use Rattle.envoy_types.specs.JwtForms.{jwt_written}
+use Rattle.envoy_types.specs.RbacForms.{http_rbac_written, network_rbac_written}
+use Rattle.envoy_types.specs.SmallForms.{fixed_faults, front_in, is_named, last_in, most_entries}
 use Rattle.envoy_types.specs.SmallForms.{plain_config_faults, short_list_faults, sole_list}
-use Rattle.envoy_types.specs.WrittenFields.{Field, field, named_written, object_of, sole_field}
+use Rattle.envoy_types.specs.WrittenFields.{Field, field, named_written, object_of}
 use Rattle.envoy_types.specs.declared.chains.ChainBody.{ChainBody}
 use Rattle.envoy_types.specs.declared.chains.ChainBody.TheVariants.{Tcp, Http}
 use Rattle.envoy_types.specs.declared.chains.HttpFilter.{HttpFilter}
@@ -54,7 +53,7 @@ pub proxy-back : (cluster : List ℕ) → Back proxy_faults proxy_in (proxy_writ
 unfolding proxy_config_faults proxy_in proxy_written is_known
 proxy-back cluster =
     let fs : List Field =
-        field TYPE.now (string TCP_PROXY_TYPE.now) ∷ field CLUSTER.now (string cluster) ∷ field STAT_PREFIX.now (string cluster) ∷ [] in
+    field TYPE.now (string TCP_PROXY_TYPE.now) ∷ field CLUSTER.now (string cluster) ∷ field STAT_PREFIX.now (string cluster) ∷ [] in
     let named = required-field fs refl CLUSTER.now _ text_in _ cluster refl (text-back cluster) in
     named-back TCP_PROXY_NAME.now _ (required_written_in CLUSTER.now text_in) (object_of fs) cluster (record {
       passes = strict-object (TYPE.now ∷ CLUSTER.now ∷ STAT_PREFIX.now ∷ []) _ fs refl
@@ -134,8 +133,11 @@ few-pass written filters e h =
 http-are : (filters : List HttpFilter) → are_http_filters (items (map http_filter_written filters ++ router_written ∷ [])) ≡ true
 unfolding are_http_filters
 http-are filters =
-    rw (front-ending (map http_filter_written filters) router_written, last-ending (map http_filter_written filters) router_written,
-        items-pass http_filter_written http_filter_is_printable is_http_filter http-kind filters) router-is
+    rw (
+      front-ending (map http_filter_written filters) router_written,
+      last-ending (map http_filter_written filters) router_written,
+      items-pass http_filter_written is_http_filter http-kind filters,
+    ) router-is
 
 http-filters-back : (filters : List HttpFilter) → filters_are_printable http_filter_is_printable filters ≡ true
     → Back http_filters_faults (front_in http_filter_in) (http_filters_written filters) filters
@@ -145,9 +147,9 @@ http-filters-back filters h =
     record {
       passes = behind (behind (few-pass http_filter_written filters router_written few.0)
           (demanded (λ d. are_http_filters (items_of d)) reason.BadForm _ (http-are filters)))
-          (ending-passes http_filter_written http_filter_is_printable http_filter_faults router_faults
-          (λ x p. (http-filter-back x p).passes) filters few.1 router_written router-passes);
-      back = front-back http_filter_written http_filter_is_printable http_filter_in (λ x p. (http-filter-back x p).back) filters few.1
+          (ending-passes http_filter_faults http_filter_in http_filter_written http_filter_is_printable http-filter-back filters few.1
+          router_faults router_written router-passes);
+      back = front-back http_filter_faults http_filter_in http_filter_written http_filter_is_printable http-filter-back filters few.1
           router_written;
     }
 
@@ -160,26 +162,26 @@ route-passes name =
     let to : List Field = field CLUSTER.now (string name) ∷ [] in
     let fs : List Field = field MATCH.now (object_of all) ∷ field ROUTE.now (object_of to) ∷ [] in
     strict-object (MATCH.now ∷ ROUTE.now ∷ []) _ fs refl
-        (both
-        (required-at fs refl MATCH.now _ _ refl (strict-object (PREFIX.now ∷ []) _ all refl
-        (required-at all refl PREFIX.now _ _ refl (fixed-passes ALL_PATHS.now))))
-        (required-at fs refl ROUTE.now _ _ refl (strict-object (CLUSTER.now ∷ []) _ to refl
-        (required-at to refl CLUSTER.now _ _ refl (fixed-passes name)))))
+    (both
+    (required-at fs refl MATCH.now _ _ refl (strict-object (PREFIX.now ∷ []) _ all refl
+    (required-at all refl PREFIX.now _ _ refl (fixed-passes ALL_PATHS.now))))
+    (required-at fs refl ROUTE.now _ _ refl (strict-object (CLUSTER.now ∷ []) _ to refl
+    (required-at to refl CLUSTER.now _ _ refl (fixed-passes name)))))
 
 virtual-host-passes : (name : List ℕ) → Passes (virtual_host_faults name) (virtual_host_written name)
 unfolding virtual_host_faults virtual_host_written is_known
 virtual-host-passes name =
     let all : Data = string ALL_DOMAINS.now in
     let fs : List Field =
-        field DOMAINS.now (array (items (all ∷ [])))
-        ∷ field NAME.now (string INBOUND_HOST.now)
-        ∷ field ROUTES.now (array (items (route_written name ∷ [])))
-        ∷ [] in
+    field DOMAINS.now (array (items (all ∷ [])))
+    ∷ field NAME.now (string INBOUND_HOST.now)
+    ∷ field ROUTES.now (array (items (route_written name ∷ [])))
+    ∷ [] in
     strict-object (DOMAINS.now ∷ NAME.now ∷ ROUTES.now ∷ []) _ fs refl
-        (both (required-at fs refl DOMAINS.now _ _ refl (sole-back _ _ all all (passing (fixed-passes ALL_DOMAINS.now))).passes)
-        (both (required-at fs refl NAME.now _ _ refl (fixed-passes INBOUND_HOST.now))
-        (required-at fs refl ROUTES.now _ _ refl
-        (sole-back _ _ (route_written name) (route_written name) (passing (route-passes name))).passes)))
+    (both (required-at fs refl DOMAINS.now _ _ refl (sole-back _ _ all all (passing (fixed-passes ALL_DOMAINS.now))).passes)
+    (both (required-at fs refl NAME.now _ _ refl (fixed-passes INBOUND_HOST.now))
+    (required-at fs refl ROUTES.now _ _ refl
+    (sole-back _ _ (route_written name) (route_written name) (passing (route-passes name))).passes)))
 
 -- routes that were asked under the name that is read
 host-passes : (read name : List ℕ) → read ≡ name
@@ -208,11 +210,11 @@ pub manager-back : (filters : List HttpFilter) (cluster : List ℕ) → filters_
 unfolding manager_config_faults manager_config_in manager_in manager_written route_name_in is_known
 manager-back filters cluster h =
     let fs : List Field =
-        field TYPE.now (string HTTP_MANAGER_TYPE.now)
-        ∷ field HTTP_FILTERS.now (http_filters_written filters)
-        ∷ field ROUTE_CONFIG.now (route_config_written cluster)
-        ∷ field STAT_PREFIX.now (string cluster)
-        ∷ [] in
+    field TYPE.now (string HTTP_MANAGER_TYPE.now)
+    ∷ field HTTP_FILTERS.now (http_filters_written filters)
+    ∷ field ROUTE_CONFIG.now (route_config_written cluster)
+    ∷ field STAT_PREFIX.now (string cluster)
+    ∷ [] in
     let all = required-field fs refl HTTP_FILTERS.now _ (front_in http_filter_in) _ filters refl (http-filters-back filters h) in
     let route = required-field fs refl ROUTE_CONFIG.now _ (required_written_in NAME.now text_in) _ cluster refl (route-config-back cluster) in
     named-back HTTP_MANAGER_NAME.now _ manager_config_in (object_of fs) (Http filters cluster) (record {
@@ -235,9 +237,11 @@ tcp-are : (filters : List NetworkFilter) (cluster : List ℕ)
     → are_tcp_filters (items (map network_filter_written filters ++ proxy_written cluster ∷ [])) ≡ true
 unfolding are_tcp_filters
 tcp-are filters cluster =
-    rw (front-ending (map network_filter_written filters) (proxy_written cluster),
-        last-ending (map network_filter_written filters) (proxy_written cluster),
-        items-pass network_filter_written network_filter_is_printable is_network_filter network-kind filters) (proxy-is cluster)
+    rw (
+      front-ending (map network_filter_written filters) (proxy_written cluster),
+      last-ending (map network_filter_written filters) (proxy_written cluster),
+      items-pass network_filter_written is_network_filter network-kind filters,
+    ) (proxy-is cluster)
 
 -- a list that ends with the proxy is no connection manager
 no-manager : (ds : List Data) (cluster : List ℕ) → is_manager (items (ds ++ proxy_written cluster ∷ [])) ≡ false
@@ -258,16 +262,16 @@ tcp-back filters cluster h =
     let no : is_manager (items (map network_filter_written filters ++ proxy_written cluster ∷ [])) ≡ false =
     no-manager (map network_filter_written filters) cluster in
     let few = and_parts (nat_le (length filters + 1) most_entries) _ h in
-    let ends = ending-passes network_filter_written network_filter_is_printable network_filter_faults proxy_faults
-        (λ x p. (network-filter-back x p).passes) filters few.1 (proxy_written cluster) (proxy-back cluster).passes in
+    let ends = ending-passes network_filter_faults network_filter_in network_filter_written network_filter_is_printable network-filter-back
+    filters few.1 proxy_faults (proxy_written cluster) (proxy-back cluster).passes in
+    let front = front-back network_filter_faults network_filter_in network_filter_written network_filter_is_printable network-filter-back
+    filters few.1 (proxy_written cluster) in
+    let last = last-back proxy_in (map network_filter_written filters) (proxy_written cluster) ∙ (proxy-back cluster).back in
     record {
       passes = behind (behind (few-pass network_filter_written filters (proxy_written cluster) few.0)
           (demanded (λ v. is_manager (items_of v) || are_tcp_filters (items_of v)) reason.BadForm d (rw (no, tcp-are filters cluster) refl)))
           (record { clean = λ at. rw no (ends.clean at) });
-      back = rw no (ap₂ (λ f c. Tcp f c)
-          (front-back network_filter_written network_filter_is_printable network_filter_in (λ x p. (network-filter-back x p).back) filters few.1
-          (proxy_written cluster))
-          (last-back proxy_in (map network_filter_written filters) (proxy_written cluster) ∙ (proxy-back cluster).back));
+      back = rw no (ap₂ (λ f c. Tcp f c) front last);
     }
 
 http-back : (filters : List HttpFilter) (cluster : List ℕ) → filters_are_printable http_filter_is_printable filters ≡ true

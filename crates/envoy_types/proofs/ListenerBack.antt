@@ -2,7 +2,7 @@
 use Rattle.std.proofs.Common.{◌≡◌, ℕ, true, nat_le, List, [], ◌∷◌, length, refl, sym, ◌∙◌}
 use Rattle.std.proofs.lemmas.Bool.{and_parts}
 use Rattle.std.specs.List.{list_all}
-use Rattle.serde_json.specs.Data.{Data, string}
+use Rattle.serde_json.specs.Data.{string}
 use Rattle.mesh_doc.specs.Faults.{first}
 use Rattle.mesh_doc.specs.Fields.{required_written, required_written_in}
 use Rattle.mesh_doc.specs.Kinds.{number_in, text_faults, text_in}
@@ -15,7 +15,7 @@ use Rattle.envoy_types.proofs.ObjectsBack.{required-at, required-field, required
 use Rattle.envoy_types.proofs.PartsBack.{Back, fixed-passes, list-that-back, number-within-back, text-back}
 use Rattle.envoy_types.proofs.SocketsBack.{listener-filters-pass}
 use Rattle.envoy_types.specs.ChainForms.{are_distinct, chain_faults, chain_in, chain_is_printable, chain_written}
-use Rattle.envoy_types.specs.ListenerForms.{SpellsOne, Spells, WrittenSpells, address_faults, address_in, address_written, chains_faults}
+use Rattle.envoy_types.specs.ListenerForms.{SpellsOne, Spells, address_faults, address_in, address_written, chains_faults}
 use Rattle.envoy_types.specs.ListenerForms.{chains_in, duplicate_faults, is_printable, listener_faults, listener_in, listener_written}
 use Rattle.envoy_types.specs.ListenerForms.{port_in, socket_address_faults}
 use Rattle.envoy_types.specs.SmallForms.{any_port_faults, is_within, most_chains}
@@ -46,8 +46,8 @@ module _ (address : List ℕ) (port : ℕ) (h : is_within 0 65535 port ≡ true)
   unfolding address_faults address_written socket_address_faults is_known
   address-passes =
       strict-object (SOCKET_ADDRESS.now ∷ []) _ outer refl
-          (required-at outer refl SOCKET_ADDRESS.now _ _ refl
-          (strict-object (ADDRESS.now ∷ PORT_VALUE.now ∷ []) _ inner refl (both text-field-back.passes port-field-back.passes)))
+      (required-at outer refl SOCKET_ADDRESS.now _ _ refl
+      (strict-object (ADDRESS.now ∷ PORT_VALUE.now ∷ []) _ inner refl (both text-field-back.passes port-field-back.passes)))
 
   address-back : address_in (address_written address port) ≡ address
   unfolding address_in address_written
@@ -69,7 +69,7 @@ chains-back : (chains : List FilterChain) → is_within 1 most_chains (length ch
 unfolding chains_faults
 chains-back chains few h =
     list-that-back chain_faults chain_in chain_written chain_is_printable chain-back (is_within 1 most_chains) most_chains chains
-        (within-most 1 most_chains (length chains) few) few h
+    (within-most 1 most_chains (length chains) few) few h
 
 -- ---- the listener
 
@@ -96,12 +96,12 @@ listener-back : (listener : Listener) → IsPrintable listener → Back listener
 unfolding listener_faults listener_in listener_written chains_in duplicate_faults is_known
 listener-back listener can =
     let fs : List Field =
-        field ADDRESS.now (address_written listener.address listener.port)
-        ∷ field FILTER_CHAINS.now (list_written chain_written listener.chains)
-        ∷ field LISTENER_FILTERS.now listener_filters_written
-        ∷ field NAME.now (string listener.name)
-        ∷ field TRAFFIC_DIRECTION.now (string INBOUND_DIRECTION.now)
-        ∷ [] in
+    field ADDRESS.now (address_written listener.address listener.port)
+    ∷ field FILTER_CHAINS.now (list_written chain_written listener.chains)
+    ∷ field LISTENER_FILTERS.now listener_filters_written
+    ∷ field NAME.now (string listener.name)
+    ∷ field TRAFFIC_DIRECTION.now (string INBOUND_DIRECTION.now)
+    ∷ [] in
     let name = required-field fs refl NAME.now _ text_in _ _ refl (text-back listener.name) in
     let chains = required-field fs refl FILTER_CHAINS.now _ (list_in chain_in) _ _ refl (chains-back listener.chains can.few can.chains) in
     let all : chains_in (object_of fs) ≡ listener.chains = chains.back in

@@ -1,15 +1,15 @@
 -- What is written of role-based access control filters is read back.
-use Rattle.std.proofs.Common.{◌≡◌, ℕ, Bool, true, List, [], ◌∷◌, ◌++◌, Option, Some, None, option_map, unwrap_or, refl, ap, ◌∙◌}
+use Rattle.std.proofs.Common.{◌≡◌, true, List, [], ◌∷◌, ◌++◌, Option, Some, None, option_map, unwrap_or, refl, ap, ◌∙◌}
 use Rattle.std.proofs.lemmas.Bool.{and_parts}
-use Rattle.serde_json.specs.Data.{Data, string}
+use Rattle.serde_json.specs.Data.{string}
 use Rattle.mesh_doc.specs.Kinds.{text_in}
 use Rattle.mesh_doc.specs.Known.{is_known}
 use Rattle.mesh_doc.specs.Maps.{map_in}
 use Rattle.mesh_tree.specs.declared.tree.Tree.{Tree}
-use Rattle.envoy_types.proofs.FieldsBack.{Passes, both, found, strict-object}
+use Rattle.envoy_types.proofs.FieldsBack.{both, found, strict-object}
 use Rattle.envoy_types.proofs.MapsBack.{map-back}
-use Rattle.envoy_types.proofs.ObjectsBack.{option-all, optional-at, optional-field, optional-means, required-at, required-field, text-at}
-use Rattle.envoy_types.proofs.PartsBack.{Back, fixed-passes, named-back, tested-back}
+use Rattle.envoy_types.proofs.ObjectsBack.{optional-at, optional-field, optional-means, required-at, required-field, text-at}
+use Rattle.envoy_types.proofs.PartsBack.{Back, fixed-passes, named-back, option-all, tested-back}
 use Rattle.envoy_types.proofs.PermissionsBack.{permission-own-names, permission-reads-back, permission-writes}
 use Rattle.envoy_types.proofs.PrincipalsBack.{principal-own-names, principal-reads-back, principal-writes}
 use Rattle.envoy_types.proofs.TreesBack.{tree-list-back}
@@ -22,7 +22,7 @@ use Rattle.envoy_types.specs.RbacForms.{optional_rules_are_printable, policy_fau
 use Rattle.envoy_types.specs.RbacForms.{rbac_config_in, rbac_fields, rbac_fields_faults, rbac_in, rbac_is_printable, rules_are_printable}
 use Rattle.envoy_types.specs.RbacForms.{rules_faults, rules_in, rules_written}
 use Rattle.envoy_types.specs.TreeForms.{tree_list_faults, tree_list_in, tree_list_is_printable, tree_written}
-use Rattle.envoy_types.specs.WrittenFields.{Field, are_different, field, field_names, list_written, map_written, object_of, optional_field}
+use Rattle.envoy_types.specs.WrittenFields.{Field, are_different, field, field_names, list_written, map_written, object_of}
 use Rattle.envoy_types.specs.WrittenFields.{text_field}
 use Rattle.envoy_types.specs.declared.access.Rbac.{Rbac}
 use Rattle.envoy_types.specs.declared.access.RbacAction.{RbacAction}
@@ -54,13 +54,13 @@ policy-back : (policy : RbacPolicy) → policy_is_printable policy ≡ true
 unfolding policy_faults policy_in policy_written policy_is_printable is_known
 policy-back policy h =
     let fs : List Field =
-        field PERMISSIONS.now (list_written (tree_written permission_form) policy.permissions)
-        ∷ field PRINCIPALS.now (list_written (tree_written principal_form) policy.principals)
-        ∷ [] in
+    field PERMISSIONS.now (list_written (tree_written permission_form) policy.permissions)
+    ∷ field PRINCIPALS.now (list_written (tree_written principal_form) policy.principals)
+    ∷ [] in
     let asked = required-field fs refl PERMISSIONS.now _ (tree_list_in permission_form) _ _ refl
-        (permissions-back policy.permissions (and_parts _ _ h).0) in
+    (permissions-back policy.permissions (and_parts _ _ h).0) in
     let asking = required-field fs refl PRINCIPALS.now _ (tree_list_in principal_form) _ _ refl
-        (principals-back policy.principals (and_parts _ _ h).1) in
+    (principals-back policy.principals (and_parts _ _ h).1) in
     record {
       passes = strict-object (PERMISSIONS.now ∷ PRINCIPALS.now ∷ []) _ fs refl (both asked.passes asking.passes);
       back = policy-path refl asked.back asking.back;
@@ -81,13 +81,13 @@ rules-back : (rules : Rules) → rules_are_printable rules ≡ true → Back rul
 unfolding rules_faults rules_in rules_written rules_are_printable is_known
 rules-back rules h =
     let fs : List Field =
-        field ACTION.now (string (action_word rules.action))
-        ∷ field POLICIES.now (map_written (λ policy. policy.name) policy_written rules.policies)
-        ∷ [] in
+    field ACTION.now (string (action_word rules.action))
+    ∷ field POLICIES.now (map_written (λ policy. policy.name) policy_written rules.policies)
+    ∷ [] in
     let does = action-back rules.action in
     let named = required-field fs refl POLICIES.now _ (map_in policy_in) _ rules.policies refl
-        (map-back policy_faults policy_in (λ policy. policy.name) policy_written policy_is_printable policy-back
-        rules.policies (and_parts _ _ h).0 (and_parts _ _ h).1) in
+    (map-back policy_faults policy_in (λ policy. policy.name) policy_written policy_is_printable policy-back
+    rules.policies (and_parts _ _ h).0 (and_parts _ _ h).1) in
     record {
       passes = strict-object (ACTION.now ∷ POLICIES.now ∷ []) _ fs refl
           (both (optional-at fs refl ACTION.now _ _ refl does.passes) named.passes);
@@ -113,9 +113,9 @@ fields-back : (fs : List Field) → are_different (field_names fs) ≡ true → 
 unfolding rbac_config_in rbac_is_printable
 fields-back fs apart rbac h rules shadow prefix =
     let one = optional-field fs apart RULES.now rules_faults rules_in rules_written rules_are_printable rules-back rbac.rules rules
-        (all-rules rbac.rules (and_parts _ _ h).0) in
+    (all-rules rbac.rules (and_parts _ _ h).0) in
     let two = optional-field fs apart SHADOW_RULES.now rules_faults rules_in rules_written rules_are_printable rules-back rbac.shadow shadow
-        (all-rules rbac.shadow (and_parts _ _ h).1) in
+    (all-rules rbac.shadow (and_parts _ _ h).1) in
     let three = text-at fs apart SHADOW_PREFIX.now rbac.shadow_prefix prefix in
     record { passes = both one.passes (both two.passes three.passes); back = rbac-path one.back two.back three.back }
 
@@ -135,7 +135,7 @@ pub network-rbac-back : (rbac : Rbac) → rbac_is_printable rbac ≡ true
 unfolding network_rbac_config_faults network_rbac_written is_known
 network-rbac-back rbac h =
     let fs : List Field =
-        field TYPE.now (string NETWORK_RBAC_TYPE.now) ∷ (rbac_fields rbac ++ field STAT_PREFIX.now (string TCP_PREFIX.now) ∷ []) in
+    field TYPE.now (string NETWORK_RBAC_TYPE.now) ∷ (rbac_fields rbac ++ field STAT_PREFIX.now (string TCP_PREFIX.now) ∷ []) in
     let fields = fields-back fs refl rbac h refl refl refl in
     named-back NETWORK_RBAC_NAME.now _ rbac_config_in (object_of fs) rbac (record {
       passes = strict-object (TYPE.now ∷ RULES.now ∷ SHADOW_RULES.now ∷ SHADOW_PREFIX.now ∷ STAT_PREFIX.now ∷ []) _ fs refl

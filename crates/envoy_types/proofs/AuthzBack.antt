@@ -48,8 +48,8 @@ module _ (rbac_name : List ℕ) (authz : ExtAuthz) where
       ∷ []
 
   value-back : string_is_printable authz.enabled ≡ true
-      → Back enabled_value_faults (required_written_in STRING_MATCH.now string_in) (sole_field STRING_MATCH.now (string_written authz.enabled))
-      authz.enabled
+      → Back enabled_value_faults (required_written_in STRING_MATCH.now string_in)
+      (sole_field STRING_MATCH.now (string_written authz.enabled)) authz.enabled
   unfolding enabled_value_faults is_known
   value-back h =
       let fs : List Field = field STRING_MATCH.now (string_written authz.enabled) ∷ [] in

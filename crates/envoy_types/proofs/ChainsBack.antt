@@ -83,7 +83,8 @@ chain_fields chain =
 
 -- the socket, where the chain has one
 socket-field-back : (chain : FilterChain) (mutual_tls : Bool) → chain.mutual_tls ≡ mutual_tls
-    → Back (optional_written TRANSPORT_SOCKET.now socket_faults) (is_written TRANSPORT_SOCKET.now) (object_of (chain_fields chain)) mutual_tls
+    → Back (optional_written TRANSPORT_SOCKET.now socket_faults) (is_written TRANSPORT_SOCKET.now) (object_of (chain_fields chain))
+    mutual_tls
 socket-field-back chain true e = record {
   passes = optional-at (chain_fields chain) refl TRANSPORT_SOCKET.now _ socket_written (rw e refl) socket-passes;
   back = ap (λ o. is_some o) (get-object TRANSPORT_SOCKET.now (chain_fields chain) refl) ∙ rw e refl;
@@ -136,9 +137,9 @@ one-more earlier chain (later ∷ chains) h apart = (
 apart-from : (earlier : List FilterChain) (index : ℕ) (chains : List FilterChain) (at : Steps) → are_distinct chains ≡ true
     → AreApart earlier chains → first (duplicates earlier index chains at) ≡ None
 apart-from earlier index [] at h apart = refl
-apart-from earlier index (chain ∷ chains) at h apart = none-in-both _ _
-    (rw apart.0 refl)
-    (apart-from (earlier ++ chain ∷ []) (index + 1) chains at (and_parts _ _ h).1 (one-more earlier chain chains (and_parts _ _ h).0 apart.1))
+apart-from earlier index (chain ∷ chains) at h apart =
+    let more = one-more earlier chain chains (and_parts _ _ h).0 apart.1 in
+    none-in-both _ _ (rw apart.0 refl) (apart-from (earlier ++ chain ∷ []) (index + 1) chains at (and_parts _ _ h).1 more)
 
 -- distinct chains have no fault
 pub distinct-pass : (chains : List FilterChain) → are_distinct chains ≡ true → (at : Steps) → first (duplicates [] 0 chains at) ≡ None

@@ -39,7 +39,8 @@ module _ (address : List ℕ) (port : ℕ) (h : is_within 0 65535 port ≡ true)
   text-field-back : Back (required_written ADDRESS.now text_faults) (required_written_in ADDRESS.now text_in) (object_of inner) address
   text-field-back = required-field inner refl ADDRESS.now text_faults text_in _ _ refl (text-back address)
 
-  port-field-back : Back (required_written PORT_VALUE.now any_port_faults) (required_written_in PORT_VALUE.now number_in) (object_of inner) port
+  port-field-back : Back (required_written PORT_VALUE.now any_port_faults) (required_written_in PORT_VALUE.now number_in)
+      (object_of inner) port
   port-field-back = required-field inner refl PORT_VALUE.now _ number_in _ _ refl (number-within-back 0 65535 port h)
 
   address-passes : Passes address_faults (address_written address port)

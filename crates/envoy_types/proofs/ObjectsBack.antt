@@ -1,5 +1,6 @@
 -- Fields of an object that was written field by field: each passes as what was written of it does, and means that.
-use Rattle.std.proofs.Common.{◌≡◌, ℕ, Bool, true, false, List, [], ◌∷◌, Option, Some, None, option_map, unwrap_or, length, if◌then◌else◌, refl, ap, ◌∙◌}
+use Rattle.std.proofs.Common.{◌≡◌, ℕ, Bool, true, false, List, [], ◌∷◌, Option, Some, None}
+use Rattle.std.proofs.Common.{option_map, unwrap_or, length, if◌then◌else◌, refl, ap, ◌∙◌}
 use Rattle.std.specs.List.{list_all}
 use Rattle.serde_json.specs.Data.{Data, boolean, string}
 use Rattle.serde_json.specs.Find.{get}
@@ -7,7 +8,8 @@ use Rattle.mesh_doc.specs.Faults.{Check}
 use Rattle.mesh_doc.specs.Fields.{optional_written, optional_written_in, required_written, required_written_in}
 use Rattle.mesh_doc.specs.Kinds.{text_faults, text_in, truth_faults, truth_in}
 use Rattle.mesh_doc.specs.Lists.{listed_written, listed_written_in}
-use Rattle.envoy_types.proofs.FieldsBack.{Passes, absent-passes, found, get-object, optional-back, optional-passes, required-back, required-passes}
+use Rattle.envoy_types.proofs.FieldsBack.{Passes, absent-passes, found, get-object, optional-back, optional-passes}
+use Rattle.envoy_types.proofs.FieldsBack.{required-back, required-passes}
 use Rattle.envoy_types.proofs.PartsBack.{Back, listed-back, not-zero, option-all, optional-field-back, text-back, text-passes, truth-back}
 use Rattle.envoy_types.specs.ProviderForms.{is_short_list}
 use Rattle.envoy_types.specs.SmallForms.{given, most_entries}

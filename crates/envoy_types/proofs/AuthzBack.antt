@@ -1,9 +1,8 @@
 -- What is written of external authorization filters is read back.
 use Rattle.std.proofs.Common.{◌≡◌, ℕ, true, List, [], ◌∷◌, Some, None, unwrap_or, refl, ap, ap₂, ◌∙◌}
 use Rattle.std.proofs.lemmas.Bool.{and_parts}
-use Rattle.std.specs.List.{list_all}
 use Rattle.serde_json.specs.Data.{string}
-use Rattle.mesh_doc.specs.Fields.{optional_written, required_written_in}
+use Rattle.mesh_doc.specs.Fields.{required_written_in}
 use Rattle.mesh_doc.specs.Kinds.{text_faults, text_in}
 use Rattle.mesh_doc.specs.Known.{is_known}
 use Rattle.envoy_types.proofs.FieldsBack.{Passes, both, found, get-object, strict-object}
@@ -17,7 +16,7 @@ use Rattle.envoy_types.specs.AuthzForms.{grpc_written, http_authz_config_faults,
 use Rattle.envoy_types.specs.AuthzForms.{http_authz_written, http_service_faults, http_service_in, is_grpc, network_authz_config_faults}
 use Rattle.envoy_types.specs.AuthzForms.{network_authz_faults, network_authz_is_printable, network_authz_written, server_uri_faults}
 use Rattle.envoy_types.specs.AuthzForms.{server_uri_in, server_uri_written, service_field, service_in}
-use Rattle.envoy_types.specs.SmallForms.{one_of, sole_in, sole_list}
+use Rattle.envoy_types.specs.SmallForms.{sole_in, sole_list}
 use Rattle.envoy_types.specs.StringForms.{string_in, string_is_printable, string_written}
 use Rattle.envoy_types.specs.ValueForms.{segment_faults, segment_in, segment_written}
 use Rattle.envoy_types.specs.WrittenFields.{Field, are_different, field, field_names, list_written, object_of, sole_field, truth_field}
@@ -189,52 +188,43 @@ http_fields authz =
     ∷ field TRANSPORT_API_VERSION.now (string API_VERSION.now)
     ∷ []
 
--- what stands beside the service
-module _ (authz : ExtAuthz) (h : string_is_printable authz.enabled ≡ true)
-    (apart : are_different (field_names (http_fields authz)) ≡ true)
-    (known : list_all (λ f. is_known (TYPE.now ∷ FAILURE_MODE_ALLOW.now ∷ FILTER_ENABLED_METADATA.now ∷ GRPC_SERVICE.now
-    ∷ HTTP_SERVICE.now ∷ TRANSPORT_API_VERSION.now ∷ []) f.0) (http_fields authz) ≡ true)
-    (alone : Passes (one_of (GRPC_SERVICE.now ∷ HTTP_SERVICE.now ∷ [])) (object_of (http_fields authz)))
-    (grpc : Passes (optional_written GRPC_SERVICE.now grpc_service_faults) (object_of (http_fields authz)))
-    (http : Passes (optional_written HTTP_SERVICE.now http_service_faults) (object_of (http_fields authz)))
-    (service : service_in (object_of (http_fields authz)) ≡ authz.service)
-    (opens : found FAILURE_MODE_ALLOW.now (http_fields authz) ≡ (truth_field FAILURE_MODE_ALLOW.now authz.fail_open).1)
-    (enabled : found FILTER_ENABLED_METADATA.now (http_fields authz) ≡ Some (enabled_written HTTP_RBAC_NAME.now authz))
-    (version : found TRANSPORT_API_VERSION.now (http_fields authz) ≡ Some (string API_VERSION.now)) where
-  http-config-with : Back http_authz_config_faults authz_config_in (object_of (http_fields authz)) authz
-  unfolding http_authz_config_faults
-  http-config-with =
-      let fs : List Field = http_fields authz in
-      record {
-        passes = strict-object _ _ fs known
-            (both alone
-            (both (required-at fs apart TYPE.now _ _ refl (fixed-passes HTTP_AUTHZ_TYPE.now))
-            (both (truth-at fs apart FAILURE_MODE_ALLOW.now authz.fail_open opens).passes
-            (both (required-at fs apart FILTER_ENABLED_METADATA.now _ _ enabled (enabled-passes HTTP_RBAC_NAME.now authz h))
-            (both grpc (both http (required-at fs apart TRANSPORT_API_VERSION.now _ _ version (fixed-passes API_VERSION.now))))))));
-        back = config-means fs apart HTTP_RBAC_NAME.now authz h opens enabled service;
-      }
+-- the names of its fields
+abbrev http_names : List (List ℕ)
+http_names =
+    TYPE.now ∷ FAILURE_MODE_ALLOW.now ∷ FILTER_ENABLED_METADATA.now ∷ GRPC_SERVICE.now ∷ HTTP_SERVICE.now ∷ TRANSPORT_API_VERSION.now ∷ []
 
 http-config-back : (service : AuthService) (rest : ExtAuthz) → string_is_printable rest.enabled ≡ true
     → let authz : ExtAuthz = record rest { service = service } in
     Back http_authz_config_faults authz_config_in (object_of (http_fields authz)) authz
-unfolding is_known
+unfolding http_authz_config_faults is_known
 http-config-back (Grpc cluster) rest h =
     let authz : ExtAuthz = record rest { service = Grpc cluster } in
     let fs : List Field = http_fields authz in
-    http-config-with authz h refl refl
-    (one-passes _ (object_of fs) (rw (get-object GRPC_SERVICE.now fs refl, get-object HTTP_SERVICE.now fs refl) refl))
-    (optional-at fs refl GRPC_SERVICE.now _ _ refl (grpc-back cluster).passes)
-    (absent-at fs refl HTTP_SERVICE.now _ refl)
-    (grpc-means fs refl cluster refl) refl refl refl
+    record {
+      passes = strict-object http_names _ fs refl
+          (both (one-passes _ (object_of fs) (rw (get-object GRPC_SERVICE.now fs refl, get-object HTTP_SERVICE.now fs refl) refl))
+          (both (required-at fs refl TYPE.now _ _ refl (fixed-passes HTTP_AUTHZ_TYPE.now))
+          (both (truth-at fs refl FAILURE_MODE_ALLOW.now authz.fail_open refl).passes
+          (both (required-at fs refl FILTER_ENABLED_METADATA.now _ _ refl (enabled-passes HTTP_RBAC_NAME.now authz h))
+          (both (optional-at fs refl GRPC_SERVICE.now _ _ refl (grpc-back cluster).passes)
+          (both (absent-at fs refl HTTP_SERVICE.now _ refl)
+          (required-at fs refl TRANSPORT_API_VERSION.now _ _ refl (fixed-passes API_VERSION.now))))))));
+      back = config-means fs refl HTTP_RBAC_NAME.now authz h refl refl (grpc-means fs refl cluster refl);
+    }
 http-config-back (Http cluster uri) rest h =
     let authz : ExtAuthz = record rest { service = Http cluster uri } in
     let fs : List Field = http_fields authz in
-    http-config-with authz h refl refl
-    (one-passes _ (object_of fs) (rw (get-object GRPC_SERVICE.now fs refl, get-object HTTP_SERVICE.now fs refl) refl))
-    (absent-at fs refl GRPC_SERVICE.now _ refl)
-    (optional-at fs refl HTTP_SERVICE.now _ _ refl (http-back cluster uri).passes)
-    (http-means fs refl cluster uri refl refl) refl refl refl
+    record {
+      passes = strict-object http_names _ fs refl
+          (both (one-passes _ (object_of fs) (rw (get-object GRPC_SERVICE.now fs refl, get-object HTTP_SERVICE.now fs refl) refl))
+          (both (required-at fs refl TYPE.now _ _ refl (fixed-passes HTTP_AUTHZ_TYPE.now))
+          (both (truth-at fs refl FAILURE_MODE_ALLOW.now authz.fail_open refl).passes
+          (both (required-at fs refl FILTER_ENABLED_METADATA.now _ _ refl (enabled-passes HTTP_RBAC_NAME.now authz h))
+          (both (absent-at fs refl GRPC_SERVICE.now _ refl)
+          (both (optional-at fs refl HTTP_SERVICE.now _ _ refl (http-back cluster uri).passes)
+          (required-at fs refl TRANSPORT_API_VERSION.now _ _ refl (fixed-passes API_VERSION.now))))))));
+      back = config-means fs refl HTTP_RBAC_NAME.now authz h refl refl (http-means fs refl cluster uri refl refl);
+    }
 
 pub http-authz-back : (authz : ExtAuthz) → http_authz_is_printable authz ≡ true
     → Back http_authz_faults authz_in (http_authz_written authz) authz

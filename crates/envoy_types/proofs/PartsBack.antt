@@ -99,7 +99,7 @@ list-passes most ds h = record { clean = λ at. rw (items-length ds, h) refl }
 
 module _ {A : Type 0} (f : Check) (value : Data → A) (written : A → Data) (P : A → Bool)
     (each : (x : A) → P x ≡ true → Back f value (written x) x) where
-  entries-pass : (k : ℕ) (xs : List A) (at : Steps) → list_all P xs ≡ true
+  pub entries-pass : (k : ℕ) (xs : List A) (at : Steps) → list_all P xs ≡ true
       → first (each_in_turn {S = Unit {0}} (λ _. f) (λ seen _. seen) tt k (items_of (map written xs)) at) ≡ None
   entries-pass k [] at h = refl
   entries-pass k (x ∷ xs) at h =

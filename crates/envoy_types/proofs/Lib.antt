@@ -1,2 +1,11 @@
+pub mod BlocksBack
 pub mod FieldsBack
+pub mod HeadersBack
+pub mod LeavesBack
+pub mod PartsBack
+pub mod PermissionsBack
+pub mod PrincipalsBack
+pub mod StringsBack
+pub mod TreesBack
+pub mod ValuesBack
 pub mod WorkedRules

@@ -30,7 +30,7 @@ enabled_value_faults = strict (STRING_MATCH.now ∷ []) (required_written STRING
 unfoldable pub enabled_faults : List ℕ → Check
 enabled_faults rbac_name =
     strict (FILTER.now ∷ PATH.now ∷ VALUE.now ∷ [])
-    ( required_written FILTER.now (fixed_faults rbac_name)
+    (required_written FILTER.now (fixed_faults rbac_name)
     ⨾ required_written PATH.now (sole_list (segment_faults text_faults))
     ⨾ required_written VALUE.now enabled_value_faults)
 
@@ -42,7 +42,7 @@ enabled_in d = required_written_in VALUE.now (required_written_in STRING_MATCH.n
 
 unfoldable pub enabled_written : List ℕ → ExtAuthz → Data
 enabled_written rbac_name authz = object_of
-    ( field FILTER.now (string rbac_name)
+    (field FILTER.now (string rbac_name)
     ∷ field PATH.now (list_written segment_written (authz.enabled_key ∷ []))
     ∷ field VALUE.now (sole_field STRING_MATCH.now (string_written authz.enabled))
     ∷ [])
@@ -57,7 +57,7 @@ envoy_grpc_faults = strict (CLUSTER_NAME.now ∷ []) (required_written CLUSTER_N
 unfoldable pub grpc_service_faults : Check
 grpc_service_faults =
     strict (ENVOY_GRPC.now ∷ TIMEOUT.now ∷ [])
-    ( required_written ENVOY_GRPC.now envoy_grpc_faults
+    (required_written ENVOY_GRPC.now envoy_grpc_faults
     ⨾ required_written TIMEOUT.now (fixed_faults ANSWER_TIME.now))
 
 unfoldable pub grpc_service_in : Data → AuthService
@@ -67,7 +67,7 @@ grpc_service_in d = Grpc (required_written_in ENVOY_GRPC.now (required_written_i
 unfoldable pub server_uri_faults : Check
 server_uri_faults =
     strict (CLUSTER.now ∷ TIMEOUT.now ∷ URI.now ∷ [])
-    ( required_written CLUSTER.now text_faults
+    (required_written CLUSTER.now text_faults
     ⨾ required_written TIMEOUT.now (fixed_faults ANSWER_TIME.now)
     ⨾ required_written URI.now text_faults)
 
@@ -87,13 +87,13 @@ service_in d = unwrap_or (optional_written_in GRPC_SERVICE.now grpc_service_in d
 
 unfoldable pub grpc_written : List ℕ → Data
 grpc_written cluster = object_of
-    ( field ENVOY_GRPC.now (sole_field CLUSTER_NAME.now (string cluster))
+    (field ENVOY_GRPC.now (sole_field CLUSTER_NAME.now (string cluster))
     ∷ field TIMEOUT.now (string ANSWER_TIME.now)
     ∷ [])
 
 unfoldable pub server_uri_written : List ℕ → List ℕ → Data
 server_uri_written cluster uri = object_of
-    ( field CLUSTER.now (string cluster)
+    (field CLUSTER.now (string cluster)
     ∷ field TIMEOUT.now (string ANSWER_TIME.now)
     ∷ field URI.now (string uri)
     ∷ [])
@@ -110,7 +110,7 @@ unfoldable pub http_authz_config_faults : Check
 http_authz_config_faults =
     strict (TYPE.now ∷ FAILURE_MODE_ALLOW.now ∷ FILTER_ENABLED_METADATA.now ∷ GRPC_SERVICE.now ∷ HTTP_SERVICE.now
     ∷ TRANSPORT_API_VERSION.now ∷ [])
-    ( one_of (GRPC_SERVICE.now ∷ HTTP_SERVICE.now ∷ [])
+    (one_of (GRPC_SERVICE.now ∷ HTTP_SERVICE.now ∷ [])
     ⨾ type_faults HTTP_AUTHZ_TYPE.now
     ⨾ optional_written FAILURE_MODE_ALLOW.now truth_faults
     ⨾ required_written FILTER_ENABLED_METADATA.now (enabled_faults HTTP_RBAC_NAME.now)
@@ -123,7 +123,7 @@ unfoldable pub network_authz_config_faults : Check
 network_authz_config_faults =
     strict (TYPE.now ∷ FAILURE_MODE_ALLOW.now ∷ FILTER_ENABLED_METADATA.now ∷ GRPC_SERVICE.now ∷ STAT_PREFIX.now
     ∷ TRANSPORT_API_VERSION.now ∷ [])
-    ( type_faults NETWORK_AUTHZ_TYPE.now
+    (type_faults NETWORK_AUTHZ_TYPE.now
     ⨾ optional_written FAILURE_MODE_ALLOW.now truth_faults
     ⨾ required_written FILTER_ENABLED_METADATA.now (enabled_faults NETWORK_RBAC_NAME.now)
     ⨾ required_written GRPC_SERVICE.now grpc_service_faults
@@ -162,7 +162,7 @@ http_authz_written authz = named_written HTTP_AUTHZ_NAME.now (config_written HTT
 
 unfoldable pub network_authz_written : ExtAuthz → Data
 network_authz_written authz = named_written NETWORK_AUTHZ_NAME.now (config_written NETWORK_AUTHZ_TYPE.now
-    ( authz_fields NETWORK_RBAC_NAME.now authz
+    (authz_fields NETWORK_RBAC_NAME.now authz
     ++ field STAT_PREFIX.now (string TCP_PREFIX.now)
     ∷ field TRANSPORT_API_VERSION.now (string API_VERSION.now)
     ∷ []))

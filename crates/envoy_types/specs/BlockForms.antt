@@ -37,7 +37,7 @@ prefix_len_faults ip = number_faults ▸ demands (λ d. length_fits ip (number_i
 unfoldable pub block_faults : Check
 block_faults =
     strict (ADDRESS_PREFIX.now ∷ PREFIX_LEN.now ∷ [])
-    ( required_written ADDRESS_PREFIX.now address_prefix_faults
+    (required_written ADDRESS_PREFIX.now address_prefix_faults
     ⨾ given (λ d. required_written PREFIX_LEN.now (prefix_len_faults (address_in d))))
 
 -- a value with a fault stands for any block
@@ -52,7 +52,7 @@ block_in d =
 -- the address in the one text that it is written in
 unfoldable pub block_written : Cidr → Data
 block_written block = object_of
-    ( field ADDRESS_PREFIX.now (string (ip_text block.addr))
+    (field ADDRESS_PREFIX.now (string (ip_text block.addr))
     ∷ field PREFIX_LEN.now (number_written block.len)
     ∷ [])
 

@@ -49,7 +49,7 @@ transport_word transport.Tls = TLS.now
 unfoldable pub match_faults : Check
 match_faults =
     strict (APPLICATION_PROTOCOLS.now ∷ DESTINATION_PORT.now ∷ TRANSPORT_PROTOCOL.now ∷ [])
-    ( listed_written APPLICATION_PROTOCOLS.now most_entries text_faults
+    (listed_written APPLICATION_PROTOCOLS.now most_entries text_faults
     ⨾ optional_written DESTINATION_PORT.now port_faults
     ⨾ optional_written TRANSPORT_PROTOCOL.now transport_faults)
 
@@ -65,7 +65,7 @@ transport_written protocol = string (transport_word protocol)
 
 unfoldable pub match_written : ChainMatch → Data
 match_written matching = object_of
-    ( list_field APPLICATION_PROTOCOLS.now string matching.alpn
+    (list_field APPLICATION_PROTOCOLS.now string matching.alpn
     ∷ optional_field DESTINATION_PORT.now number_written matching.port
     ∷ optional_field TRANSPORT_PROTOCOL.now transport_written matching.transport
     ∷ [])
@@ -83,7 +83,7 @@ match_is_printable matching = port_is_printable matching.port && is_short_list m
 unfoldable pub chain_faults : Check
 chain_faults =
     strict (FILTER_CHAIN_MATCH.now ∷ FILTERS.now ∷ NAME.now ∷ TRANSPORT_SOCKET.now ∷ [])
-    ( required_written FILTER_CHAIN_MATCH.now match_faults
+    (required_written FILTER_CHAIN_MATCH.now match_faults
     ⨾ required_written FILTERS.now body_faults
     ⨾ required_written NAME.now text_faults
     ⨾ optional_written TRANSPORT_SOCKET.now socket_faults)
@@ -103,7 +103,7 @@ socket_field mutual_tls = (TRANSPORT_SOCKET.now, if mutual_tls then Some socket_
 
 unfoldable pub chain_written : FilterChain → Data
 chain_written chain = object_of
-    ( field FILTER_CHAIN_MATCH.now (match_written chain.matching)
+    (field FILTER_CHAIN_MATCH.now (match_written chain.matching)
     ∷ field FILTERS.now (body_written chain.body)
     ∷ field NAME.now (string chain.name)
     ∷ socket_field chain.mutual_tls

@@ -37,7 +37,7 @@ use Rattle.envoy_types.specs.declared.names.TheConstants.{TCP_PROXY_NAME, TCP_PR
 unfoldable pub proxy_config_faults : Check
 proxy_config_faults =
     strict (TYPE.now ∷ CLUSTER.now ∷ STAT_PREFIX.now ∷ [])
-    ( type_faults TCP_PROXY_TYPE.now
+    (type_faults TCP_PROXY_TYPE.now
     ⨾ required_written CLUSTER.now text_faults
     ⨾ given (λ d. required_written STAT_PREFIX.now (fixed_faults (required_written_in CLUSTER.now text_in d))))
 
@@ -50,7 +50,7 @@ proxy_in = config_in (required_written_in CLUSTER.now text_in)
 
 unfoldable pub proxy_written : List ℕ → Data
 proxy_written cluster = named_written TCP_PROXY_NAME.now (config_written TCP_PROXY_TYPE.now
-    ( field CLUSTER.now (string cluster)
+    (field CLUSTER.now (string cluster)
     ∷ field STAT_PREFIX.now (string cluster)
     ∷ []))
 
@@ -131,14 +131,14 @@ route_action_faults name = strict (CLUSTER.now ∷ []) (required_written CLUSTER
 unfoldable pub route_faults : List ℕ → Check
 route_faults name =
     strict (MATCH.now ∷ ROUTE.now ∷ [])
-    ( required_written MATCH.now route_match_faults
+    (required_written MATCH.now route_match_faults
     ⨾ required_written ROUTE.now (route_action_faults name))
 
 -- `VirtualHost`
 unfoldable pub virtual_host_faults : List ℕ → Check
 virtual_host_faults name =
     strict (DOMAINS.now ∷ NAME.now ∷ ROUTES.now ∷ [])
-    ( required_written DOMAINS.now (sole_list (fixed_faults ALL_DOMAINS.now))
+    (required_written DOMAINS.now (sole_list (fixed_faults ALL_DOMAINS.now))
     ⨾ required_written NAME.now (fixed_faults INBOUND_HOST.now)
     ⨾ required_written ROUTES.now (sole_list (route_faults name)))
 
@@ -146,25 +146,25 @@ virtual_host_faults name =
 unfoldable pub route_config_faults : Check
 route_config_faults =
     strict (NAME.now ∷ VIRTUAL_HOSTS.now ∷ [])
-    ( required_written NAME.now text_faults
+    (required_written NAME.now text_faults
     ⨾ given (λ d. required_written VIRTUAL_HOSTS.now (sole_list (virtual_host_faults (required_written_in NAME.now text_in d)))))
 
 unfoldable pub route_written : List ℕ → Data
 route_written name = object_of
-    ( field MATCH.now (sole_field PREFIX.now (string ALL_PATHS.now))
+    (field MATCH.now (sole_field PREFIX.now (string ALL_PATHS.now))
     ∷ field ROUTE.now (sole_field CLUSTER.now (string name))
     ∷ [])
 
 unfoldable pub virtual_host_written : List ℕ → Data
 virtual_host_written name = object_of
-    ( field DOMAINS.now (array (items (string ALL_DOMAINS.now ∷ [])))
+    (field DOMAINS.now (array (items (string ALL_DOMAINS.now ∷ [])))
     ∷ field NAME.now (string INBOUND_HOST.now)
     ∷ field ROUTES.now (array (items (route_written name ∷ [])))
     ∷ [])
 
 unfoldable pub route_config_written : List ℕ → Data
 route_config_written name = object_of
-    ( field NAME.now (string name)
+    (field NAME.now (string name)
     ∷ field VIRTUAL_HOSTS.now (array (items (virtual_host_written name ∷ [])))
     ∷ [])
 
@@ -178,7 +178,7 @@ route_name_in d = required_written_in ROUTE_CONFIG.now (required_written_in NAME
 unfoldable pub manager_config_faults : Check
 manager_config_faults =
     strict (TYPE.now ∷ HTTP_FILTERS.now ∷ ROUTE_CONFIG.now ∷ STAT_PREFIX.now ∷ [])
-    ( type_faults HTTP_MANAGER_TYPE.now
+    (type_faults HTTP_MANAGER_TYPE.now
     ⨾ required_written HTTP_FILTERS.now http_filters_faults
     ⨾ required_written ROUTE_CONFIG.now route_config_faults
     ⨾ given (λ d. required_written STAT_PREFIX.now (fixed_faults (route_name_in d))))
@@ -198,7 +198,7 @@ http_filters_written filters = array (items (map http_filter_written filters ++ 
 
 unfoldable pub manager_written : List HttpFilter → List ℕ → Data
 manager_written filters cluster = named_written HTTP_MANAGER_NAME.now (config_written HTTP_MANAGER_TYPE.now
-    ( field HTTP_FILTERS.now (http_filters_written filters)
+    (field HTTP_FILTERS.now (http_filters_written filters)
     ∷ field ROUTE_CONFIG.now (route_config_written cluster)
     ∷ field STAT_PREFIX.now (string cluster)
     ∷ []))

@@ -38,7 +38,7 @@ header_name_faults = tested is_header_name reason.BadForm
 unfoldable pub header_faults : Check
 header_faults =
     strict (NAME.now ∷ PRESENT_MATCH.now ∷ STRING_MATCH.now ∷ [])
-    ( one_of (PRESENT_MATCH.now ∷ STRING_MATCH.now ∷ [])
+    (one_of (PRESENT_MATCH.now ∷ STRING_MATCH.now ∷ [])
     ⨾ required_written NAME.now header_name_faults
     ⨾ optional_written PRESENT_MATCH.now true_faults
     ⨾ optional_written STRING_MATCH.now string_faults)

@@ -45,7 +45,7 @@ empty_faults = unknown_faults []
 unfoldable pub requirement_entry_faults : List (List ℕ) → (is_last : Bool) → Check
 requirement_entry_faults names is_last =
     strict (ALLOW_MISSING.now ∷ PROVIDER_NAME.now ∷ [])
-    ( one_of (ALLOW_MISSING.now ∷ PROVIDER_NAME.now ∷ [])
+    (one_of (ALLOW_MISSING.now ∷ PROVIDER_NAME.now ∷ [])
     ⨾ demands (λ d. if is_written ALLOW_MISSING.now d then is_last else true) reason.BadForm
     ⨾ optional_written PROVIDER_NAME.now (provider_name_faults names)
     ⨾ optional_written ALLOW_MISSING.now empty_faults)
@@ -58,7 +58,7 @@ requirement_entry_in d = optional_written_in PROVIDER_NAME.now text_in d
 unfoldable pub requirement_list_faults : List (List ℕ) → Check
 requirement_list_faults names =
     given (λ d. list_in_turn_that {S = ℕ} (nat_le 2)
-        (λ left. requirement_entry_faults names (left == 0)) (λ left _. left - 1) (length_in d - 1))
+    (λ left. requirement_entry_faults names (left == 0)) (λ left _. left - 1) (length_in d - 1))
 
 -- `JwtRequirementOrList`
 unfoldable pub requires_any_faults : List (List ℕ) → Check
@@ -75,7 +75,7 @@ requires_any_in d = any_of (required_written_in REQUIREMENTS.now (list_in requir
 unfoldable pub requirement_faults : List (List ℕ) → Check
 requirement_faults names =
     strict (PROVIDER_NAME.now ∷ REQUIRES_ANY.now ∷ [])
-    ( one_of (PROVIDER_NAME.now ∷ REQUIRES_ANY.now ∷ [])
+    (one_of (PROVIDER_NAME.now ∷ REQUIRES_ANY.now ∷ [])
     ⨾ optional_written PROVIDER_NAME.now (provider_name_faults names)
     ⨾ optional_written REQUIRES_ANY.now (requires_any_faults names))
 
@@ -115,7 +115,7 @@ prefix_match_faults = strict (PREFIX.now ∷ []) (required_written PREFIX.now te
 unfoldable pub check_faults : List (List ℕ) → Check
 check_faults names =
     strict (MATCH.now ∷ REQUIRES.now ∷ [])
-    ( required_written MATCH.now prefix_match_faults
+    (required_written MATCH.now prefix_match_faults
     ⨾ optional_written REQUIRES.now (requirement_faults names))
 
 unfoldable pub check_in : Data → JwtCheck
@@ -126,7 +126,7 @@ check_in d = record {
 
 unfoldable pub check_written : JwtCheck → Data
 check_written check = object_of
-    ( field MATCH.now (sole_field PREFIX.now (string check.prefix))
+    (field MATCH.now (sole_field PREFIX.now (string check.prefix))
     ∷ optional_field REQUIRES.now requirement_written check.requirement
     ∷ [])
 
@@ -147,7 +147,7 @@ provider_names providers = map (λ provider. provider.name) providers
 unfoldable pub jwt_config_faults : Check
 jwt_config_faults =
     strict (TYPE.now ∷ PROVIDERS.now ∷ RULES.now ∷ [])
-    ( type_faults JWT_TYPE.now
+    (type_faults JWT_TYPE.now
     ⨾ required_written PROVIDERS.now (map_of provider_faults)
     ⨾ given (λ d. required_written RULES.now (any_list (check_faults (provider_names (providers_in d))))))
 
@@ -162,7 +162,7 @@ jwt_in = config_in jwt_config_in
 
 unfoldable pub jwt_written : Authentication → Data
 jwt_written jwt = named_written JWT_NAME.now (config_written JWT_TYPE.now
-    ( field PROVIDERS.now (map_written (λ provider. provider.name) provider_written jwt.providers)
+    (field PROVIDERS.now (map_written (λ provider. provider.name) provider_written jwt.providers)
     ∷ field RULES.now (list_written check_written jwt.rules)
     ∷ []))
 

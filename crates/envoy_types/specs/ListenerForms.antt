@@ -24,7 +24,7 @@ use Rattle.envoy_types.specs.declared.keys.TheConstants.{TRAFFIC_DIRECTION}
 unfoldable pub socket_address_faults : Check
 socket_address_faults =
     strict (ADDRESS.now ∷ PORT_VALUE.now ∷ [])
-    ( required_written ADDRESS.now text_faults
+    (required_written ADDRESS.now text_faults
     ⨾ required_written PORT_VALUE.now any_port_faults)
 
 -- `config.core.v3.Address`
@@ -39,7 +39,7 @@ port_in d = required_written_in SOCKET_ADDRESS.now (required_written_in PORT_VAL
 
 unfoldable pub address_written : List ℕ → ℕ → Data
 address_written address port = sole_field SOCKET_ADDRESS.now (object_of
-    ( field ADDRESS.now (string address)
+    (field ADDRESS.now (string address)
     ∷ field PORT_VALUE.now (number_written port)
     ∷ []))
 
@@ -62,7 +62,7 @@ duplicate_faults d at = duplicates [] 0 (chains_in d) (at_key FILTER_CHAINS.now 
 unfoldable pub listener_faults : Check
 listener_faults =
     strict (ADDRESS.now ∷ FILTER_CHAINS.now ∷ LISTENER_FILTERS.now ∷ NAME.now ∷ TRAFFIC_DIRECTION.now ∷ [])
-    ( required_written ADDRESS.now address_faults
+    (required_written ADDRESS.now address_faults
     ⨾ required_written FILTER_CHAINS.now chains_faults
     ⨾ required_written LISTENER_FILTERS.now listener_filters_faults
     ⨾ required_written NAME.now text_faults
@@ -85,7 +85,7 @@ Spells d listener = (first (listener_faults d []) ≡ None) × (listener_in d �
 -- are always told, and addresses stand in their one text.
 unfoldable pub listener_written : Listener → Data
 listener_written listener = object_of
-    ( field ADDRESS.now (address_written listener.address listener.port)
+    (field ADDRESS.now (address_written listener.address listener.port)
     ∷ field FILTER_CHAINS.now (list_written chain_written listener.chains)
     ∷ field LISTENER_FILTERS.now listener_filters_written
     ∷ field NAME.now (string listener.name)

@@ -35,7 +35,7 @@ template_faults = tested is_uri reason.BadForm
 unfoldable pub template_config_faults : Check
 template_config_faults =
     strict (TYPE.now ∷ PATH_TEMPLATE.now ∷ [])
-    ( type_faults URI_TEMPLATE_TYPE.now
+    (type_faults URI_TEMPLATE_TYPE.now
     ⨾ required_written PATH_TEMPLATE.now template_faults)
 
 abbrev pub uri_template_faults : Check

@@ -35,7 +35,7 @@ lower_token_faults = tested is_lower_token reason.BadForm
 unfoldable pub from_header_faults : Check
 from_header_faults =
     strict (NAME.now ∷ VALUE_PREFIX.now ∷ [])
-    ( required_written NAME.now lower_token_faults
+    (required_written NAME.now lower_token_faults
     ⨾ optional_written VALUE_PREFIX.now text_faults)
 
 unfoldable pub from_header_in : Data → TokenPlace
@@ -77,7 +77,7 @@ local_keys_in d = Inline (required_written_in INLINE_STRING.now text_in d)
 unfoldable pub keys_uri_faults : Check
 keys_uri_faults =
     strict (CLUSTER.now ∷ TIMEOUT.now ∷ URI.now ∷ [])
-    ( required_written CLUSTER.now (fixed_faults KEYS_CLUSTER.now)
+    (required_written CLUSTER.now (fixed_faults KEYS_CLUSTER.now)
     ⨾ required_written TIMEOUT.now (fixed_faults KEYS_TIME.now)
     ⨾ required_written URI.now text_faults)
 
@@ -94,7 +94,7 @@ keys_in d = unwrap_or (optional_written_in LOCAL_JWKS.now local_keys_in d) (requ
 
 unfoldable pub keys_uri_written : List ℕ → Data
 keys_uri_written uri = object_of
-    ( field CLUSTER.now (string KEYS_CLUSTER.now)
+    (field CLUSTER.now (string KEYS_CLUSTER.now)
     ∷ field TIMEOUT.now (string KEYS_TIME.now)
     ∷ field URI.now (string uri)
     ∷ [])
@@ -120,7 +120,7 @@ unfoldable pub provider_faults : List ℕ → Check
 provider_faults name =
     strict (AUDIENCES.now ∷ FORWARD.now ∷ FORWARD_PAYLOAD_HEADER.now ∷ FROM_HEADERS.now ∷ FROM_PARAMS.now ∷ ISSUER.now
     ∷ LOCAL_JWKS.now ∷ PAYLOAD_IN_METADATA.now ∷ REMOTE_JWKS.now ∷ [])
-    ( one_of (LOCAL_JWKS.now ∷ REMOTE_JWKS.now ∷ [])
+    (one_of (LOCAL_JWKS.now ∷ REMOTE_JWKS.now ∷ [])
     ⨾ token_fields_faults
     ⨾ required_written ISSUER.now text_faults
     ⨾ optional_written LOCAL_JWKS.now local_keys_faults
@@ -144,7 +144,7 @@ provider_in name d = record { name = name; rule = provider_rule_in d }
 -- the places are always written, the default ones too
 unfoldable pub provider_written : Provider → Data
 provider_written provider = object_of
-    ( list_field AUDIENCES.now string provider.rule.audiences
+    (list_field AUDIENCES.now string provider.rule.audiences
     ∷ truth_field FORWARD.now provider.rule.forward
     ∷ optional_field FORWARD_PAYLOAD_HEADER.now string provider.rule.payload_header
     ∷ list_field FROM_HEADERS.now from_header_written (filter_map header_of provider.rule.places)

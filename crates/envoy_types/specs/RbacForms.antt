@@ -33,7 +33,7 @@ use Rattle.envoy_types.specs.declared.names.TheConstants.{HTTP_RBAC_NAME, HTTP_R
 unfoldable pub policy_faults : List ℕ → Check
 policy_faults name =
     strict (PERMISSIONS.now ∷ PRINCIPALS.now ∷ [])
-    ( required_written PERMISSIONS.now (tree_list_faults permission_form)
+    (required_written PERMISSIONS.now (tree_list_faults permission_form)
     ⨾ required_written PRINCIPALS.now (tree_list_faults principal_form))
 
 unfoldable pub policy_in : List ℕ → Data → RbacPolicy
@@ -45,7 +45,7 @@ policy_in name d = record {
 
 unfoldable pub policy_written : RbacPolicy → Data
 policy_written policy = object_of
-    ( field PERMISSIONS.now (list_written (tree_written permission_form) policy.permissions)
+    (field PERMISSIONS.now (list_written (tree_written permission_form) policy.permissions)
     ∷ field PRINCIPALS.now (list_written (tree_written principal_form) policy.principals)
     ∷ [])
 
@@ -78,7 +78,7 @@ action_word action.Log = LOG.now
 unfoldable pub rules_faults : Check
 rules_faults =
     strict (ACTION.now ∷ POLICIES.now ∷ [])
-    ( optional_written ACTION.now action_faults
+    (optional_written ACTION.now action_faults
     ⨾ required_written POLICIES.now (map_of policy_faults))
 
 -- ALLOW is the action where none is written; policies stand in byte order of their names, as the members of an object do
@@ -91,7 +91,7 @@ rules_in d = record {
 -- the action is always written
 unfoldable pub rules_written : Rules → Data
 rules_written rules = object_of
-    ( field ACTION.now (string (action_word rules.action))
+    (field ACTION.now (string (action_word rules.action))
     ∷ field POLICIES.now (map_written (λ policy. policy.name) policy_written rules.policies)
     ∷ [])
 
@@ -123,7 +123,7 @@ http_rbac_config_faults =
 unfoldable pub network_rbac_config_faults : Check
 network_rbac_config_faults =
     strict (TYPE.now ∷ RULES.now ∷ SHADOW_RULES.now ∷ SHADOW_PREFIX.now ∷ STAT_PREFIX.now ∷ [])
-    ( type_faults NETWORK_RBAC_TYPE.now
+    (type_faults NETWORK_RBAC_TYPE.now
     ⨾ rbac_fields_faults
     ⨾ required_written STAT_PREFIX.now (fixed_faults TCP_PREFIX.now))
 

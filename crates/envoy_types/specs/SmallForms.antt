@@ -150,7 +150,7 @@ given f d at = f d d at
 unfoldable pub named_faults : List ℕ → Check → Check
 named_faults name config =
     strict (NAME.now ∷ TYPED_CONFIG.now ∷ [])
-    ( required_written NAME.now (fixed_faults name)
+    (required_written NAME.now (fixed_faults name)
     ⨾ required_written TYPED_CONFIG.now config)
 
 -- what the configuration means

@@ -24,14 +24,14 @@ secret_faults name = strict (NAME.now ∷ []) (required_written NAME.now (fixed_
 unfoldable pub certificates_faults : Check
 certificates_faults =
     strict (TLS_CERTIFICATES.now ∷ VALIDATION_CONTEXT.now ∷ [])
-    ( required_written TLS_CERTIFICATES.now (sole_list (secret_faults OWN_CERTIFICATE.now))
+    (required_written TLS_CERTIFICATES.now (sole_list (secret_faults OWN_CERTIFICATE.now))
     ⨾ required_written VALIDATION_CONTEXT.now (secret_faults MESH_ROOTS.now))
 
 -- `DownstreamTlsContext`
 unfoldable pub tls_context_faults : Check
 tls_context_faults =
     strict (TYPE.now ∷ COMMON_TLS_CONTEXT.now ∷ REQUIRE_CLIENT_CERTIFICATE.now ∷ [])
-    ( type_faults TLS_SOCKET_TYPE.now
+    (type_faults TLS_SOCKET_TYPE.now
     ⨾ required_written COMMON_TLS_CONTEXT.now certificates_faults
     ⨾ required_written REQUIRE_CLIENT_CERTIFICATE.now true_faults)
 
@@ -43,13 +43,13 @@ secret_written name = sole_field NAME.now (string name)
 
 unfoldable pub certificates_written : Data
 certificates_written = object_of
-    ( field TLS_CERTIFICATES.now (array (items_of (secret_written OWN_CERTIFICATE.now ∷ [])))
+    (field TLS_CERTIFICATES.now (array (items_of (secret_written OWN_CERTIFICATE.now ∷ [])))
     ∷ field VALIDATION_CONTEXT.now (secret_written MESH_ROOTS.now)
     ∷ [])
 
 unfoldable pub socket_written : Data
 socket_written = named_written TLS_SOCKET_NAME.now (config_written TLS_SOCKET_TYPE.now
-    ( field COMMON_TLS_CONTEXT.now certificates_written
+    (field COMMON_TLS_CONTEXT.now certificates_written
     ∷ field REQUIRE_CLIENT_CERTIFICATE.now (boolean true)
     ∷ []))
 

@@ -29,7 +29,7 @@ match_keys = CONTAINS.now ∷ EXACT.now ∷ PREFIX.now ∷ SUFFIX.now ∷ []
 unfoldable pub string_faults : Check
 string_faults =
     strict (CONTAINS.now ∷ EXACT.now ∷ PREFIX.now ∷ SUFFIX.now ∷ IGNORE_CASE.now ∷ [])
-    ( one_of match_keys
+    (one_of match_keys
     ⨾ optional_written CONTAINS.now filled_text_faults
     ⨾ optional_written EXACT.now text_faults
     ⨾ optional_written PREFIX.now filled_text_faults

@@ -21,7 +21,7 @@ use Rattle.envoy_types.specs.declared.names.TheConstants.{JWT_NAME}
 unfoldable pub one_of_faults : Check
 one_of_faults =
     strict (PRESENT_MATCH.now ∷ STRING_MATCH.now ∷ [])
-    ( one_of (PRESENT_MATCH.now ∷ STRING_MATCH.now ∷ [])
+    (one_of (PRESENT_MATCH.now ∷ STRING_MATCH.now ∷ [])
     ⨾ optional_written PRESENT_MATCH.now true_faults
     ⨾ optional_written STRING_MATCH.now string_faults)
 
@@ -39,7 +39,7 @@ list_match_in d = required_written_in ONE_OF.now one_of_in d
 unfoldable pub value_faults : Check
 value_faults =
     strict (LIST_MATCH.now ∷ PRESENT_MATCH.now ∷ STRING_MATCH.now ∷ [])
-    ( one_of (LIST_MATCH.now ∷ PRESENT_MATCH.now ∷ STRING_MATCH.now ∷ [])
+    (one_of (LIST_MATCH.now ∷ PRESENT_MATCH.now ∷ STRING_MATCH.now ∷ [])
     ⨾ optional_written PRESENT_MATCH.now true_faults
     ⨾ optional_written STRING_MATCH.now string_faults
     ⨾ optional_written LIST_MATCH.now list_match_faults)
@@ -102,13 +102,13 @@ path_written keys = list_written segment_written (PAYLOAD.now ∷ keys)
 unfoldable pub metadata_faults : Check
 metadata_faults =
     strict (FILTER.now ∷ PATH.now ∷ VALUE.now ∷ [])
-    ( required_written FILTER.now (fixed_faults JWT_NAME.now)
+    (required_written FILTER.now (fixed_faults JWT_NAME.now)
     ⨾ required_written PATH.now path_faults
     ⨾ required_written VALUE.now value_faults)
 
 unfoldable pub metadata_written : List (List ℕ) → ValueMatcher → Data
 metadata_written keys value = object_of
-    ( field FILTER.now (string JWT_NAME.now)
+    (field FILTER.now (string JWT_NAME.now)
     ∷ field PATH.now (path_written keys)
     ∷ field VALUE.now (value_written value)
     ∷ [])

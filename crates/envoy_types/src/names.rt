@@ -54,8 +54,7 @@ pub const HTTP_MANAGER_TYPE: &str =
 pub const ROUTER_NAME: &str = "envoy.filters.http.router";
 
 /// The type URL of its configuration.
-pub const ROUTER_TYPE: &str =
-    "type.googleapis.com/envoy.extensions.filters.http.router.v3.Router";
+pub const ROUTER_TYPE: &str = "type.googleapis.com/envoy.extensions.filters.http.router.v3.Router";
 
 /// The HTTP filter of role-based access control.
 pub const HTTP_RBAC_NAME: &str = "envoy.filters.http.rbac";

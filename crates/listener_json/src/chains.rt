@@ -10,7 +10,7 @@ use crate::lists::{Spelled, put_list, put_optional};
 use crate::sockets::socket_value;
 use envoy_types::fixed::{RAW_BUFFER, TLS};
 use envoy_types::keys::{
-    APPLICATION_PROTOCOLS, DESTINATION_PORT, FILTERS, FILTER_CHAIN_MATCH, NAME, TRANSPORT_PROTOCOL,
+    APPLICATION_PROTOCOLS, DESTINATION_PORT, FILTER_CHAIN_MATCH, FILTERS, NAME, TRANSPORT_PROTOCOL,
     TRANSPORT_SOCKET,
 };
 use envoy_types::{ChainMatch, FilterChain, Transport};
@@ -69,6 +69,11 @@ fn match_value(alloc: Global, matching: &ChainMatch) -> Result<Value, Memory>
     let mut fields = Fields::new(alloc);
     put_list(alloc, &mut fields, APPLICATION_PROTOCOLS, &matching.alpn)?;
     put_optional(alloc, &mut fields, DESTINATION_PORT, matching.port.as_ref())?;
-    put_optional(alloc, &mut fields, TRANSPORT_PROTOCOL, matching.transport.as_ref())?;
+    put_optional(
+        alloc,
+        &mut fields,
+        TRANSPORT_PROTOCOL,
+        matching.transport.as_ref(),
+    )?;
     Ok(fields.into_value())
 }

@@ -6,7 +6,7 @@ ghost use Rattle.envoy_types.specs.JwtForms as form;
 
 use crate::lists::{Spelled, list_value, map_value, put_optional};
 use envoy_types::keys::{
-    ALLOW_MISSING, MATCH, PREFIX, PROVIDERS, PROVIDER_NAME, REQUIREMENTS, REQUIRES, REQUIRES_ANY,
+    ALLOW_MISSING, MATCH, PREFIX, PROVIDER_NAME, PROVIDERS, REQUIREMENTS, REQUIRES, REQUIRES_ANY,
     RULES,
 };
 use envoy_types::{JWT_NAME, JWT_TYPE, JwtAuthn, JwtCheck, Requirement};

@@ -50,7 +50,12 @@ fn put_tokens(alloc: Global, fields: &mut Fields, rule: &JwtRule) -> Result<(), 
 {
     put_list(alloc, fields, AUDIENCES, &rule.audiences)?;
     fields.put_true(alloc, FORWARD, rule.forward)?;
-    put_optional(alloc, fields, FORWARD_PAYLOAD_HEADER, rule.payload_header.as_ref())?;
+    put_optional(
+        alloc,
+        fields,
+        FORWARD_PAYLOAD_HEADER,
+        rule.payload_header.as_ref(),
+    )?;
     put_headers(alloc, fields, &rule.places)?;
     put_params(alloc, fields, &rule.places)
 }

@@ -5,9 +5,7 @@ ghost use Rattle.envoy_types.specs.FilterForms as form;
 
 use crate::lists::sole_entry;
 use envoy_types::fixed::{ALL_DOMAINS, ALL_PATHS, INBOUND_HOST};
-use envoy_types::keys::{
-    CLUSTER, DOMAINS, MATCH, NAME, PREFIX, ROUTE, ROUTES, VIRTUAL_HOSTS,
-};
+use envoy_types::keys::{CLUSTER, DOMAINS, MATCH, NAME, PREFIX, ROUTE, ROUTES, VIRTUAL_HOSTS};
 use leaf_json::{Fields, sole_field, text_value};
 use mesh_text::Memory;
 use serde_json::Value;

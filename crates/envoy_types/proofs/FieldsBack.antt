@@ -1,5 +1,6 @@
 -- What a form of fields finds in an object that was written field by field: each field at its name, and no other.
-use Rattle.std.proofs.Common.{◌≡◌, ℕ, Bool, true, false, true≢false, List, [], ◌∷◌, Option, Some, None, option_map, refl, sym, subst, ap, ◌∙◌, not, if◌then◌else◌}
+use Rattle.std.proofs.Common.{◌≡◌, ℕ, Bool, true, false, true≢false, List, [], ◌∷◌, Option, Some, None, option_map, refl, sym}
+use Rattle.std.proofs.Common.{subst, ap, ◌∙◌, not, if◌then◌else◌}
 use Rattle.std.proofs.lemmas.Bool.{and_parts, or_parts}
 use Rattle.std.proofs.lemmas.Slice.Eq.{bytes_eq-Decides}
 use Rattle.std.specs.List.{list_all, list_any}

@@ -11,8 +11,7 @@ use Rattle.mesh_doc.specs.Lists.{listed_written, listed_written_in}
 use Rattle.envoy_types.proofs.FieldsBack.{Passes, absent-passes, found, get-object, optional-back, optional-passes}
 use Rattle.envoy_types.proofs.FieldsBack.{required-back, required-passes}
 use Rattle.envoy_types.proofs.PartsBack.{Back, listed-back, not-zero, option-all, optional-field-back, text-back, text-passes, truth-back}
-use Rattle.envoy_types.specs.SmallForms.{is_short_list}
-use Rattle.envoy_types.specs.SmallForms.{given, most_entries}
+use Rattle.envoy_types.specs.SmallForms.{given, is_short_list, most_entries}
 use Rattle.envoy_types.specs.WrittenFields.{Field, are_different, field_names, list_field, object_of, text_field, truth_field}
 
 -- a check that looks at the value itself

@@ -1,5 +1,6 @@
 -- What is written of a part is read back: single values, lists, alternatives and configurations.
-use Rattle.std.proofs.Common.{◌≡◌, ℕ, ◌+◌, ◌==◌, Bool, true, false, nat_le, List, [], ◌∷◌, length, map, Option, Some, None, is_some, option_map, unwrap_or, refl, sym, ap, ◌∙◌, suc, ◌&&◌, if◌then◌else◌, arith}
+use Rattle.std.proofs.Common.{◌≡◌, ℕ, ◌+◌, ◌==◌, Bool, true, false, nat_le, List, [], ◌∷◌, length, map, Option, Some, None}
+use Rattle.std.proofs.Common.{is_some, option_map, unwrap_or, refl, sym, ap, ◌∙◌, suc, ◌&&◌, if◌then◌else◌, arith}
 use Rattle.std.proofs.lemmas.Bool.{and_parts, ne_eqb}
 use Rattle.std.proofs.lemmas.Slice.Eq.{bytes_eq-Decides}
 use Rattle.std.specs.List.{list_all}
@@ -19,11 +20,15 @@ use Rattle.mesh_doc.specs.Tested.{tested}
 use Rattle.mesh_doc.specs.Turns.{each_in_turn, list_in_turn}
 use Rattle.mesh_doc.specs.declared.reason.Reason.{Reason}
 use Rattle.mesh_doc.specs.declared.reason.Reason.TheVariants as reason
-use Rattle.envoy_types.proofs.FieldsBack.{Passes, behind, both, demanded, get-object, none-in-both, optional-passes, absent-passes, required-back, required-passes, strict-object}
-use Rattle.envoy_types.specs.SmallForms.{any_list, any_port_faults, config_in, count_written, fixed_faults, is_within, list_that, most_entries}
-use Rattle.envoy_types.specs.SmallForms.{named_faults, number_within_faults, one_of, plain_config_faults, port_faults, short_list_faults, sole_in}
+use Rattle.envoy_types.proofs.FieldsBack.{Passes, behind, both, demanded, get-object, none-in-both, optional-passes}
+use Rattle.envoy_types.proofs.FieldsBack.{absent-passes, required-back, required-passes, strict-object}
+use Rattle.envoy_types.specs.SmallForms.{any_list, any_port_faults, config_in, count_written, fixed_faults, is_within, list_that}
+use Rattle.envoy_types.specs.SmallForms.{most_entries}
+use Rattle.envoy_types.specs.SmallForms.{named_faults, number_within_faults, one_of, plain_config_faults, port_faults}
+use Rattle.envoy_types.specs.SmallForms.{short_list_faults, sole_in}
 use Rattle.envoy_types.specs.SmallForms.{sole_list, some_list, true_faults, type_faults}
-use Rattle.envoy_types.specs.WrittenFields.{Field, are_different, config_written, field, field_names, list_field, list_written, named_written, number_written, object_of}
+use Rattle.envoy_types.specs.WrittenFields.{Field, are_different, config_written, field, field_names, list_field, list_written}
+use Rattle.envoy_types.specs.WrittenFields.{named_written, number_written, object_of}
 use Rattle.envoy_types.specs.declared.keys.TheConstants.{NAME, TYPED_CONFIG, TYPE}
 
 -- the value has no fault, wherever it stands, and means this

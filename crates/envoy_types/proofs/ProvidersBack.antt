@@ -21,14 +21,13 @@ use Rattle.mesh_policy.specs.declared.jwt.TokenPlace.{TokenPlace}
 use Rattle.mesh_policy.specs.declared.jwt.TokenPlace.TheVariants as place
 use Rattle.envoy_types.specs.HeaderForms.{is_lower_token}
 use Rattle.envoy_types.specs.Jwt.{Provider}
-use Rattle.envoy_types.specs.SmallForms.{is_short_list}
 use Rattle.envoy_types.specs.ProviderForms.{from_header_faults, from_header_in, from_header_written, from_param_in, header_of}
 use Rattle.envoy_types.specs.ProviderForms.{param_of, keys_field, payload_header_is_printable, provider_faults, provider_in}
 use Rattle.envoy_types.specs.ProviderForms.{provider_is_printable, provider_rule_in, provider_written, token_fields_faults}
 use Rattle.envoy_types.specs.ProviderForms.{keys_in, keys_uri_faults, keys_uri_written, local_keys_faults, local_keys_in}
 use Rattle.envoy_types.specs.ProviderForms.{remote_keys_faults, remote_keys_in, lower_token_faults}
 use Rattle.envoy_types.specs.ProviderForms.{place_is_printable, places_are_printable, places_in}
-use Rattle.envoy_types.specs.SmallForms.{fixed_faults, most_entries, one_of}
+use Rattle.envoy_types.specs.SmallForms.{fixed_faults, is_short_list, most_entries, one_of}
 use Rattle.envoy_types.specs.WrittenFields.{Field, field, list_field, object_of, optional_field, sole_field, text_field}
 use Rattle.envoy_types.specs.WrittenFields.{truth_field}
 use Rattle.envoy_types.specs.declared.fixed.TheConstants.{KEYS_CLUSTER, KEYS_TIME, PAYLOAD}

@@ -3,6 +3,7 @@
 //! each object stand in byte order of their names.
 #![tactic(auto)]
 
+mod alternatives;
 mod blocks;
 mod fields;
 mod form;
@@ -13,6 +14,10 @@ mod strings;
 mod trees;
 mod values;
 
+pub use alternatives::{
+    AnyPort, Port, TrueAlone, count_written, fixed, fixed_field, named, number_within, one_of,
+    plain_config,
+};
 pub use fields::{Fields, config_of, named_value, number_value, sole_field, text_value};
 pub use form::{Form, Word};
 pub use strings::string_to_value;

@@ -8,9 +8,11 @@ mod blocks;
 mod fields;
 mod form;
 mod headers;
+mod known;
 mod permission;
 mod principal;
 mod strings;
+mod tree_reader;
 mod trees;
 mod values;
 
@@ -22,5 +24,6 @@ pub use fields::{Fields, config_of, named_value, number_value, sole_field, text_
 pub use form::{Form, Word};
 pub use headers::LowerToken;
 pub use strings::{StringForm, string_from_value, string_to_value};
+pub use tree_reader::{TreeListForm, tree_from_value};
 pub use trees::{tree_list_value, tree_to_value};
 pub use values::{SegmentForm, segment_value};

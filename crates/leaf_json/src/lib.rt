@@ -1,6 +1,7 @@
-//! The JSON of string matchers, leaves and matcher trees, written (Envoy v3 API reference; docs/FORMATS.md has the forms),
-//! and the words by which every part of a listener is written. No field that has its default is written, and the members of
-//! each object stand in byte order of their names.
+//! The JSON of string matchers, leaves and matcher trees, written and read (Envoy v3 API reference; docs/FORMATS.md has the
+//! forms), and the words by which every part of a listener is written and read. No field that has its default is written, and
+//! the members of each object stand in byte order of their names. A reader answers the value, or its first fault in reading
+//! order.
 #![tactic(auto)]
 
 mod alternatives;

@@ -108,10 +108,10 @@ fn parts<L: Form>(alloc: Global, v: &Value, at: &Spot) -> Result<List<Tree<L>>, 
     ensures some { IfOk result (λ trees. 0 < length trees) }
 {
     at.only_fields(alloc, v, &[L::word(Word::Parts)])?;
-    match v {
-        Value::Object(members) => parts_field::<L>(alloc, members, at),
-        _ => Err(at.refuse(alloc, Reason::WrongType)),
-    }
+    let Value::Object(members) = v else {
+        unreachable!()
+    };
+    parts_field::<L>(alloc, members, at)
 }
 
 // The field, which is the first one since no other name is known.

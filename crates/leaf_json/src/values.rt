@@ -239,12 +239,12 @@ fn path(alloc: Global, items: &[Value], at: &Spot) -> Result<List<Text>, DocErro
     if items.len() > MOST_ENTRIES as usize {
         return Err(at.refuse(alloc, Reason::TooMany));
     }
-    if items.len() < 2 {
-        return Err(at.refuse(alloc, Reason::BadForm));
-    }
     let Some((first, rest)) = items.split_first() else {
         return Err(at.refuse(alloc, Reason::BadForm));
     };
+    if rest.is_empty() {
+        return Err(at.refuse(alloc, Reason::BadForm));
+    }
     payload_segment(alloc, first, &Spot::index(at, 0))?;
     later_keys(alloc, rest, at)
 }

@@ -18,8 +18,8 @@ mod trees;
 mod values;
 
 pub use alternatives::{
-    AnyPort, MOST_ENTRIES, Port, TrueAlone, count_written, fixed, fixed_field, named, number_within,
-    one_of, plain_config,
+    AnyPort, MOST_ENTRIES, Port, TrueAlone, count_written, fixed, fixed_field, named,
+    number_within, one_of, plain_config,
 };
 pub use fields::{Fields, config_of, named_value, number_value, sole_field, text_value};
 pub use form::{Form, Word};

@@ -19,7 +19,11 @@ use std::marker::PhantomData;
 
 /// The tree that `v`, which stands at `place`, spells, or its first fault: UnknownField, MissingField, WrongType, TooMany,
 /// BadForm. And and Or lists are kept as they stand.
-pub fn tree_from_value<L: Form>(alloc: Global, v: &Value, place: &Place) -> Result<Tree<L>, DocError>
+pub fn tree_from_value<L: Form>(
+    alloc: Global,
+    v: &Value,
+    place: &Place,
+) -> Result<Tree<L>, DocError>
     ensures { Reads result (form.tree_faults L.form (view v.now) place.now) (form.tree_in L.form (view v.now)) }
 {
     tree::<L>(alloc, v, &Spot::of(place))
@@ -149,11 +153,7 @@ fn trees<L: Form>(alloc: Global, v: &Value, at: &Spot) -> Result<List<Tree<L>>, 
 
 #[cycle(read)]
 #[tactic(auto, using(mesh_doc::proofs::Counts::count_of_items))]
-fn some_trees<L: Form>(
-    alloc: Global,
-    items: &[Value],
-    at: &Spot,
-) -> Result<List<Tree<L>>, DocError>
+fn some_trees<L: Form>(alloc: Global, items: &[Value], at: &Spot) -> Result<List<Tree<L>>, DocError>
     ensures reads { Reads result
         (form.trees_faults L.form (array (items_view items.now)) at.now)
         (form.each_tree_in L.form (items_view items.now)) }
@@ -169,11 +169,7 @@ fn some_trees<L: Form>(
 }
 
 #[cycle(read)]
-fn each_tree<L: Form>(
-    alloc: Global,
-    items: &[Value],
-    at: &Spot,
-) -> Result<List<Tree<L>>, DocError>
+fn each_tree<L: Form>(alloc: Global, items: &[Value], at: &Spot) -> Result<List<Tree<L>>, DocError>
     requires { length items.now < 2 ^ 32 }
     ensures reads { Reads result
         (form.each_tree_faults L.form 0 (items_view items.now) at.now)

@@ -10,6 +10,7 @@ mod fields;
 mod form;
 mod headers;
 mod known;
+mod laws;
 mod permission;
 mod principal;
 mod strings;
@@ -24,6 +25,7 @@ pub use alternatives::{
 pub use fields::{Fields, config_of, named_value, number_value, sole_field, text_value};
 pub use form::{Form, Word};
 pub use headers::LowerToken;
+pub use laws::written_reads_back;
 pub use strings::{StringForm, string_from_value, string_to_value};
 pub use tree_reader::{TreeListForm, tree_from_value};
 pub use trees::{tree_list_value, tree_to_value};

@@ -1,5 +1,5 @@
 -- A block of an address and a length is there exactly where the length fits.
-use Rattle.std.proofs.Common.{◌≡◌, ℕ, Bool, true, false, nat_le, Option, Some, None, refl, sym}
+use Rattle.std.proofs.Common.{◌≡◌, ℕ, Bool, true, false, nat_le, Some, None, refl, sym}
 use Rattle.std.proofs.lemmas.Option.{none-some}
 use Rattle.mesh_net.specs.Address.{width}
 use Rattle.mesh_net.specs.Cidr.{block_where, block_with}

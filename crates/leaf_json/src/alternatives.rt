@@ -8,7 +8,7 @@ ghost use Rattle.mesh_doc.specs.Kinds.{number_in, truth_in};
 ghost use Rattle.envoy_types.specs.SmallForms as form;
 
 use envoy_types::keys::{NAME, TYPE, TYPED_CONFIG};
-use mesh_doc::{DocError, Form as ValueForm, Reason, Spot, required_written, written};
+use mesh_doc::{DocError, Form as JsonForm, Reason, Spot, required_written, written};
 use serde_json::Value;
 use std::alloc::Global;
 
@@ -75,7 +75,7 @@ pub fn fixed_field(
 /// `true` alone: WrongType for a value that is no truth value, and BadForm for `false`.
 pub struct TrueAlone;
 
-impl ValueForm for TrueAlone {
+impl JsonForm for TrueAlone {
     type Out = bool;
 
     ghost faults = { form.true_faults };
@@ -116,7 +116,7 @@ pub fn number_within(
 /// A port, or 0.
 pub struct AnyPort;
 
-impl ValueForm for AnyPort {
+impl JsonForm for AnyPort {
     type Out = u16;
 
     ghost faults = { form.any_port_faults };
@@ -131,7 +131,7 @@ impl ValueForm for AnyPort {
 /// A port from 1 on.
 pub struct Port;
 
-impl ValueForm for Port {
+impl JsonForm for Port {
     type Out = u16;
 
     ghost faults = { form.port_faults };
@@ -146,7 +146,7 @@ impl ValueForm for Port {
 /// What the configuration means of the filter, socket or matcher `v` at `at`, which has this name (Envoy v3 API,
 /// `config.core.v3.TypedExtensionConfig`).
 #[tactic(auto, unfolding(envoy_types::specs::SmallForms::named_faults, envoy_types::specs::SmallForms::config_in))]
-pub fn named<C: ValueForm>(
+pub fn named<C: JsonForm>(
     alloc: Global,
     v: &Value,
     name: &str,

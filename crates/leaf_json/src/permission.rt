@@ -19,7 +19,7 @@ use envoy_types::keys::{
     RULES, SERVER_NAME, TYPE, URI_TEMPLATE, URL_PATH,
 };
 use envoy_types::{PermissionLeaf, StringMatcher, URI_TEMPLATE_NAME, URI_TEMPLATE_TYPE};
-use mesh_doc::{DocError, Form as ValueForm, Reason, Spot, required_written};
+use mesh_doc::{DocError, Form as JsonForm, Reason, Spot, required_written};
 use mesh_policy::Template;
 use mesh_text::Memory;
 use serde_json::Value;
@@ -112,7 +112,7 @@ fn template_value(alloc: Global, uri: &str) -> Result<Value, Memory>
 // The path of a request (`type.matcher.v3.PathMatcher`).
 struct PathForm;
 
-impl ValueForm for PathForm {
+impl JsonForm for PathForm {
     type Out = StringMatcher;
 
     ghost faults = { form.url_path_faults };
@@ -129,7 +129,7 @@ impl ValueForm for PathForm {
 // The configuration of a template (`UriTemplateMatchConfig`).
 struct TemplateForm;
 
-impl ValueForm for TemplateForm {
+impl JsonForm for TemplateForm {
     type Out = Template;
 
     ghost faults = { form.template_config_faults };
@@ -147,7 +147,7 @@ impl ValueForm for TemplateForm {
 // A template with `*` and `**` as operators: BadForm for a text that is none.
 struct UriForm;
 
-impl ValueForm for UriForm {
+impl JsonForm for UriForm {
     type Out = Template;
 
     ghost faults = { form.template_faults };

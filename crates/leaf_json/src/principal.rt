@@ -19,7 +19,7 @@ use envoy_types::keys::{
     PRINCIPAL_NAME, REMOTE_IP,
 };
 use envoy_types::{PrincipalLeaf, StringMatcher};
-use mesh_doc::{DocError, Form as ValueForm, Spot, optional_written};
+use mesh_doc::{DocError, Form as JsonForm, Spot, optional_written};
 use mesh_text::Memory;
 use serde_json::Value;
 use std::alloc::Global;
@@ -124,7 +124,7 @@ fn put_name(alloc: Global, fields: &mut Fields, name: Option<&StringMatcher>) ->
 // A peer that is known, with a matcher of its name or without one.
 struct AuthenticatedForm;
 
-impl ValueForm for AuthenticatedForm {
+impl JsonForm for AuthenticatedForm {
     type Out = Option<StringMatcher>;
 
     ghost faults = { authenticated_faults };

@@ -10,7 +10,7 @@ use crate::alternatives::{MOST_ENTRIES, TrueAlone};
 use crate::form::{Form, Word};
 use crate::known::only_alternatives;
 use envoy_types::keys::ANY;
-use mesh_doc::{DocError, Form as ValueForm, Place, Reason, Spot};
+use mesh_doc::{DocError, Form as JsonForm, Place, Reason, Spot};
 use mesh_text::{Boxed, List};
 use mesh_tree::{Node, Tree};
 use serde_json::{Map, Value};
@@ -34,7 +34,7 @@ pub struct TreeListForm<L> {
     leaves: PhantomData<L>,
 }
 
-impl<L: Form> ValueForm for TreeListForm<L> {
+impl<L: Form> JsonForm for TreeListForm<L> {
     type Out = List<Tree<L>>;
 
     ghost faults = { form.tree_list_faults L.form };

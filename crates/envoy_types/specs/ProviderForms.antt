@@ -18,7 +18,7 @@ use Rattle.mesh_policy.specs.declared.jwt.TokenPlace.TheVariants as place
 use Rattle.envoy_types.specs.HeaderForms.{is_lower_token}
 use Rattle.envoy_types.specs.Jwt.{Provider}
 use Rattle.envoy_types.specs.Order.{are_places}
-use Rattle.envoy_types.specs.SmallForms.{fixed_faults, most_entries, one_of}
+use Rattle.envoy_types.specs.SmallForms.{fixed_faults, is_short_list, most_entries, one_of}
 use Rattle.envoy_types.specs.WrittenFields.{Field, field, list_field, object_of, optional_field, sole_field, text_field, truth_field}
 use Rattle.envoy_types.specs.declared.fixed.TheConstants.{KEYS_CLUSTER, KEYS_TIME, PAYLOAD}
 use Rattle.envoy_types.specs.declared.keys.TheConstants.{AUDIENCES, CLUSTER, FORWARD, FORWARD_PAYLOAD_HEADER, FROM_HEADERS}
@@ -155,10 +155,6 @@ provider_written provider = object_of
     ∷ [])
 
 -- ---- what can be written
-
--- a list within its limit
-abbrev pub is_short_list : {A : Type 0} → List A → Bool
-is_short_list xs = nat_le (length xs) most_entries
 
 -- the names of headers are in lower case
 abbrev pub place_is_printable : TokenPlace → Bool

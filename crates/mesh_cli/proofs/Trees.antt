@@ -1,5 +1,5 @@
 -- The trees that are built so far: what they hold for, what is written of them, and that they can be written.
-use Rattle.std.proofs.Common.{◌≡◌, ℕ, ◌==◌, Bool, true, refl, ◌∙◌}
+use Rattle.std.proofs.Common.{◌≡◌, ℕ, ◌==◌, Bool, true, ◌∙◌}
 use Rattle.serde_json.specs.Data.{Data, boolean}
 use Rattle.mesh_policy.specs.Attributes.{Seen}
 use Rattle.mesh_policy.specs.declared.case.Case.{Case}

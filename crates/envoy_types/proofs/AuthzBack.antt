@@ -1,23 +1,23 @@
 -- What is written of external authorization filters is read back.
-use Rattle.std.proofs.Common.{◌≡◌, ℕ, Bool, true, false, List, [], ◌∷◌, ◌++◌, Some, None, unwrap_or, refl, ap, ap₂, ◌∙◌}
+use Rattle.std.proofs.Common.{◌≡◌, ℕ, true, List, [], ◌∷◌, Some, None, unwrap_or, refl, ap, ap₂, ◌∙◌}
 use Rattle.std.proofs.lemmas.Bool.{and_parts}
-use Rattle.std.specs.List.{list_all}
-use Rattle.serde_json.specs.Data.{Data, string}
-use Rattle.mesh_doc.specs.Fields.{optional_written, required_written_in}
+use Rattle.serde_json.specs.Data.{string}
+use Rattle.mesh_doc.specs.Fields.{required_written_in}
 use Rattle.mesh_doc.specs.Kinds.{text_faults, text_in}
 use Rattle.mesh_doc.specs.Known.{is_known}
 use Rattle.envoy_types.proofs.FieldsBack.{Passes, both, found, get-object, strict-object}
 use Rattle.envoy_types.proofs.ObjectsBack.{absent-at, optional-at, optional-means, required-at, required-field, required-means, truth-at}
 use Rattle.envoy_types.proofs.PartsBack.{Back, fixed-passes, named-back, one-passes, sole-back, text-back, text-passes}
 use Rattle.envoy_types.proofs.StringsBack.{string-back}
-use Rattle.envoy_types.specs.AuthzForms.{authz_config_in, authz_fields, authz_in, enabled_faults, enabled_in, enabled_key_in}
+use Rattle.envoy_types.proofs.ValuesBack.{segment-back}
+use Rattle.envoy_types.specs.AuthzForms.{authz_config_in, authz_in, enabled_faults, enabled_in, enabled_key_in}
 use Rattle.envoy_types.specs.AuthzForms.{enabled_value_faults, enabled_written, envoy_grpc_faults, grpc_service_faults, grpc_service_in}
 use Rattle.envoy_types.specs.AuthzForms.{grpc_written, http_authz_config_faults, http_authz_faults, http_authz_is_printable}
 use Rattle.envoy_types.specs.AuthzForms.{http_authz_written, http_service_faults, http_service_in, is_grpc, network_authz_config_faults}
 use Rattle.envoy_types.specs.AuthzForms.{network_authz_faults, network_authz_is_printable, network_authz_written, server_uri_faults}
 use Rattle.envoy_types.specs.AuthzForms.{server_uri_in, server_uri_written, service_field, service_in}
-use Rattle.envoy_types.specs.SmallForms.{one_of, sole_in, sole_list}
-use Rattle.envoy_types.specs.StringForms.{string_faults, string_in, string_is_printable, string_written}
+use Rattle.envoy_types.specs.SmallForms.{sole_in, sole_list}
+use Rattle.envoy_types.specs.StringForms.{string_in, string_is_printable, string_written}
 use Rattle.envoy_types.specs.ValueForms.{segment_faults, segment_in, segment_written}
 use Rattle.envoy_types.specs.WrittenFields.{Field, are_different, field, field_names, list_written, object_of, sole_field, truth_field}
 use Rattle.envoy_types.specs.declared.authz.AuthService.{AuthService}
@@ -25,24 +25,17 @@ use Rattle.envoy_types.specs.declared.authz.AuthService.TheVariants.{Http, Grpc}
 use Rattle.envoy_types.specs.declared.authz.ExtAuthz.{ExtAuthz}
 use Rattle.envoy_types.specs.declared.fixed.TheConstants.{ANSWER_TIME, API_VERSION, TCP_PREFIX}
 use Rattle.envoy_types.specs.declared.keys.TheConstants.{CLUSTER, CLUSTER_NAME, ENVOY_GRPC, FAILURE_MODE_ALLOW, FILTER}
-use Rattle.envoy_types.specs.declared.keys.TheConstants.{FILTER_ENABLED_METADATA, GRPC_SERVICE, HTTP_SERVICE, KEY, PATH, SERVER_URI}
+use Rattle.envoy_types.specs.declared.keys.TheConstants.{FILTER_ENABLED_METADATA, GRPC_SERVICE, HTTP_SERVICE, PATH, SERVER_URI}
 use Rattle.envoy_types.specs.declared.keys.TheConstants.{STAT_PREFIX, STRING_MATCH, TIMEOUT, TRANSPORT_API_VERSION, TYPE, URI, VALUE}
 use Rattle.envoy_types.specs.declared.names.TheConstants.{HTTP_AUTHZ_NAME, HTTP_AUTHZ_TYPE, HTTP_RBAC_NAME}
 use Rattle.envoy_types.specs.declared.names.TheConstants.{NETWORK_AUTHZ_NAME, NETWORK_AUTHZ_TYPE, NETWORK_RBAC_NAME}
 
 -- ---- when the authorizer is asked
 
-segment-back : (key : List ℕ) → Back (segment_faults text_faults) segment_in (segment_written key) key
-unfolding segment_faults segment_in is_known
-segment-back key =
-    let fs : List Field = field KEY.now (string key) ∷ [] in
-    let found = required-field fs refl KEY.now _ text_in _ _ refl (text-back key) in
-    record { passes = strict-object (KEY.now ∷ []) _ fs refl found.passes; back = found.back }
-
 path-back : (key : List ℕ)
     → Back (sole_list (segment_faults text_faults)) (sole_in segment_in) (list_written segment_written (key ∷ [])) key
 unfolding list_written
-path-back key = sole-back (segment_faults text_faults) segment_in (segment_written key) key (segment-back key)
+path-back key = sole-back (segment_faults text_faults) segment_in (segment_written key) key (segment-back text_faults key (text-passes key))
 
 module _ (rbac_name : List ℕ) (authz : ExtAuthz) where
   -- the fields of `filter_enabled_metadata`
@@ -54,8 +47,8 @@ module _ (rbac_name : List ℕ) (authz : ExtAuthz) where
       ∷ []
 
   value-back : string_is_printable authz.enabled ≡ true
-      → Back enabled_value_faults (required_written_in STRING_MATCH.now string_in) (sole_field STRING_MATCH.now (string_written authz.enabled))
-      authz.enabled
+      → Back enabled_value_faults (required_written_in STRING_MATCH.now string_in)
+      (sole_field STRING_MATCH.now (string_written authz.enabled)) authz.enabled
   unfolding enabled_value_faults is_known
   value-back h =
       let fs : List Field = field STRING_MATCH.now (string_written authz.enabled) ∷ [] in
@@ -195,52 +188,43 @@ http_fields authz =
     ∷ field TRANSPORT_API_VERSION.now (string API_VERSION.now)
     ∷ []
 
--- what stands beside the service
-module _ (authz : ExtAuthz) (h : string_is_printable authz.enabled ≡ true)
-    (apart : are_different (field_names (http_fields authz)) ≡ true)
-    (known : list_all (λ f. is_known (TYPE.now ∷ FAILURE_MODE_ALLOW.now ∷ FILTER_ENABLED_METADATA.now ∷ GRPC_SERVICE.now
-    ∷ HTTP_SERVICE.now ∷ TRANSPORT_API_VERSION.now ∷ []) f.0) (http_fields authz) ≡ true)
-    (alone : Passes (one_of (GRPC_SERVICE.now ∷ HTTP_SERVICE.now ∷ [])) (object_of (http_fields authz)))
-    (grpc : Passes (optional_written GRPC_SERVICE.now grpc_service_faults) (object_of (http_fields authz)))
-    (http : Passes (optional_written HTTP_SERVICE.now http_service_faults) (object_of (http_fields authz)))
-    (service : service_in (object_of (http_fields authz)) ≡ authz.service)
-    (opens : found FAILURE_MODE_ALLOW.now (http_fields authz) ≡ (truth_field FAILURE_MODE_ALLOW.now authz.fail_open).1)
-    (enabled : found FILTER_ENABLED_METADATA.now (http_fields authz) ≡ Some (enabled_written HTTP_RBAC_NAME.now authz))
-    (version : found TRANSPORT_API_VERSION.now (http_fields authz) ≡ Some (string API_VERSION.now)) where
-  http-config-with : Back http_authz_config_faults authz_config_in (object_of (http_fields authz)) authz
-  unfolding http_authz_config_faults
-  http-config-with =
-      let fs : List Field = http_fields authz in
-      record {
-        passes = strict-object _ _ fs known
-            (both alone
-            (both (required-at fs apart TYPE.now _ _ refl (fixed-passes HTTP_AUTHZ_TYPE.now))
-            (both (truth-at fs apart FAILURE_MODE_ALLOW.now authz.fail_open opens).passes
-            (both (required-at fs apart FILTER_ENABLED_METADATA.now _ _ enabled (enabled-passes HTTP_RBAC_NAME.now authz h))
-            (both grpc (both http (required-at fs apart TRANSPORT_API_VERSION.now _ _ version (fixed-passes API_VERSION.now))))))));
-        back = config-means fs apart HTTP_RBAC_NAME.now authz h opens enabled service;
-      }
+-- the names of its fields
+abbrev http_names : List (List ℕ)
+http_names =
+    TYPE.now ∷ FAILURE_MODE_ALLOW.now ∷ FILTER_ENABLED_METADATA.now ∷ GRPC_SERVICE.now ∷ HTTP_SERVICE.now ∷ TRANSPORT_API_VERSION.now ∷ []
 
 http-config-back : (service : AuthService) (rest : ExtAuthz) → string_is_printable rest.enabled ≡ true
     → let authz : ExtAuthz = record rest { service = service } in
     Back http_authz_config_faults authz_config_in (object_of (http_fields authz)) authz
-unfolding is_known
+unfolding http_authz_config_faults is_known
 http-config-back (Grpc cluster) rest h =
     let authz : ExtAuthz = record rest { service = Grpc cluster } in
     let fs : List Field = http_fields authz in
-    http-config-with authz h refl refl
-    (one-passes _ (object_of fs) (rw (get-object GRPC_SERVICE.now fs refl, get-object HTTP_SERVICE.now fs refl) refl))
-    (optional-at fs refl GRPC_SERVICE.now _ _ refl (grpc-back cluster).passes)
-    (absent-at fs refl HTTP_SERVICE.now _ refl)
-    (grpc-means fs refl cluster refl) refl refl refl
+    record {
+      passes = strict-object http_names _ fs refl
+          (both (one-passes _ (object_of fs) (rw (get-object GRPC_SERVICE.now fs refl, get-object HTTP_SERVICE.now fs refl) refl))
+          (both (required-at fs refl TYPE.now _ _ refl (fixed-passes HTTP_AUTHZ_TYPE.now))
+          (both (truth-at fs refl FAILURE_MODE_ALLOW.now authz.fail_open refl).passes
+          (both (required-at fs refl FILTER_ENABLED_METADATA.now _ _ refl (enabled-passes HTTP_RBAC_NAME.now authz h))
+          (both (optional-at fs refl GRPC_SERVICE.now _ _ refl (grpc-back cluster).passes)
+          (both (absent-at fs refl HTTP_SERVICE.now _ refl)
+          (required-at fs refl TRANSPORT_API_VERSION.now _ _ refl (fixed-passes API_VERSION.now))))))));
+      back = config-means fs refl HTTP_RBAC_NAME.now authz h refl refl (grpc-means fs refl cluster refl);
+    }
 http-config-back (Http cluster uri) rest h =
     let authz : ExtAuthz = record rest { service = Http cluster uri } in
     let fs : List Field = http_fields authz in
-    http-config-with authz h refl refl
-    (one-passes _ (object_of fs) (rw (get-object GRPC_SERVICE.now fs refl, get-object HTTP_SERVICE.now fs refl) refl))
-    (absent-at fs refl GRPC_SERVICE.now _ refl)
-    (optional-at fs refl HTTP_SERVICE.now _ _ refl (http-back cluster uri).passes)
-    (http-means fs refl cluster uri refl refl) refl refl refl
+    record {
+      passes = strict-object http_names _ fs refl
+          (both (one-passes _ (object_of fs) (rw (get-object GRPC_SERVICE.now fs refl, get-object HTTP_SERVICE.now fs refl) refl))
+          (both (required-at fs refl TYPE.now _ _ refl (fixed-passes HTTP_AUTHZ_TYPE.now))
+          (both (truth-at fs refl FAILURE_MODE_ALLOW.now authz.fail_open refl).passes
+          (both (required-at fs refl FILTER_ENABLED_METADATA.now _ _ refl (enabled-passes HTTP_RBAC_NAME.now authz h))
+          (both (absent-at fs refl GRPC_SERVICE.now _ refl)
+          (both (optional-at fs refl HTTP_SERVICE.now _ _ refl (http-back cluster uri).passes)
+          (required-at fs refl TRANSPORT_API_VERSION.now _ _ refl (fixed-passes API_VERSION.now))))))));
+      back = config-means fs refl HTTP_RBAC_NAME.now authz h refl refl (http-means fs refl cluster uri refl refl);
+    }
 
 pub http-authz-back : (authz : ExtAuthz) → http_authz_is_printable authz ≡ true
     → Back http_authz_faults authz_in (http_authz_written authz) authz

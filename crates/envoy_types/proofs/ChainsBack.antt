@@ -2,23 +2,22 @@
 use Rattle.std.proofs.Common.{◌≡◌, ℕ, ◌+◌, Bool, true, false, not, List, [], ◌∷◌, ◌++◌, Option, Some, None, is_some, refl, ap, ◌∙◌}
 use Rattle.std.proofs.lemmas.Bool.{and_parts, not-true, or_from, or_parts}
 use Rattle.std.specs.List.{AllByRecursion, list_all, list_any}
-use Rattle.serde_json.specs.Data.{Data, string}
+use Rattle.serde_json.specs.Data.{string}
 use Rattle.mesh_doc.specs.Faults.{first}
 use Rattle.mesh_doc.specs.Fields.{optional_written}
-use Rattle.mesh_doc.specs.Kinds.{number_in, text_faults, text_in}
+use Rattle.mesh_doc.specs.Kinds.{number_in, text_in}
 use Rattle.mesh_doc.specs.Known.{is_known}
 use Rattle.mesh_doc.specs.Places.{Steps}
-use Rattle.envoy_types.proofs.FieldsBack.{Passes, both, get-object, none-in-both, strict-object}
+use Rattle.envoy_types.proofs.FieldsBack.{both, get-object, none-in-both, strict-object}
 use Rattle.envoy_types.proofs.FiltersBack.{body-back}
-use Rattle.envoy_types.proofs.ObjectsBack.{absent-at, option-all, optional-at, optional-field, required-field}
-use Rattle.envoy_types.proofs.PartsBack.{Back, listed-back, number-within-back, tested-back, text-back}
+use Rattle.envoy_types.proofs.ObjectsBack.{absent-at, optional-at, optional-field, required-field, texts-back}
+use Rattle.envoy_types.proofs.PartsBack.{Back, option-all, number-within-back, tested-back, text-back}
 use Rattle.envoy_types.proofs.SocketsBack.{socket-passes}
 use Rattle.envoy_types.specs.ChainForms.{are_distinct, chain_faults, chain_in, chain_is_printable, chain_written, clashes}
 use Rattle.envoy_types.specs.ChainForms.{clashes_with_one, duplicates, match_faults, match_in, match_is_printable, match_written}
 use Rattle.envoy_types.specs.ChainForms.{port_is_printable, socket_field, transport_faults, transport_in, transport_word, transport_written}
 use Rattle.envoy_types.specs.FilterForms.{body_in, body_written}
-use Rattle.envoy_types.specs.SmallForms.{is_short_list}
-use Rattle.envoy_types.specs.SmallForms.{is_within, is_written, most_entries, port_faults}
+use Rattle.envoy_types.specs.SmallForms.{is_within, is_written, port_faults}
 use Rattle.envoy_types.specs.SocketForms.{socket_faults, socket_written}
 use Rattle.envoy_types.specs.WrittenFields.{Field, field, list_field, number_written, object_of, optional_field}
 use Rattle.envoy_types.specs.declared.chains.ChainMatch.{ChainMatch}
@@ -35,11 +34,7 @@ unfolding transport_in text_in
 transport-back transport.RawBuffer = record { passes = (tested-back _ _ (transport_word transport.RawBuffer) refl).passes; back = refl }
 transport-back transport.Tls = record { passes = (tested-back _ _ (transport_word transport.Tls) refl).passes; back = refl }
 
--- nothing is asked of an entry
-any-entry : {A : Type 0} (xs : List A) → list_all (λ _. true) xs ≡ true
-any-entry [] = refl
-any-entry (x ∷ xs) = any-entry xs
-
+-- nothing is asked of what is there
 any-option : {A : Type 0} (o : Option A) → option-all (λ _. true) o ≡ true
 any-option None = refl
 any-option (Some x) = refl
@@ -60,8 +55,8 @@ match-back matching h =
     ∷ optional_field DESTINATION_PORT.now number_written matching.port
     ∷ optional_field TRANSPORT_PROTOCOL.now transport_written matching.transport
     ∷ [] in
-    let names = listed-back APPLICATION_PROTOCOLS.now text_faults text_in string (λ _. true) (λ t _. text-back t) (object_of fs)
-    matching.alpn (get-object APPLICATION_PROTOCOLS.now fs refl) (and_parts _ _ h).1 (any-entry matching.alpn) in
+    let names = texts-back APPLICATION_PROTOCOLS.now (object_of fs) matching.alpn (get-object APPLICATION_PROTOCOLS.now fs refl)
+    (and_parts _ _ h).1 in
     let port = optional-field fs refl DESTINATION_PORT.now port_faults number_in number_written (is_within 1 65535)
     (number-within-back 1 65535) matching.port refl (all-ports matching.port (and_parts _ _ h).0) in
     let protocol = optional-field fs refl TRANSPORT_PROTOCOL.now transport_faults transport_in transport_written (λ _. true)
@@ -88,7 +83,8 @@ chain_fields chain =
 
 -- the socket, where the chain has one
 socket-field-back : (chain : FilterChain) (mutual_tls : Bool) → chain.mutual_tls ≡ mutual_tls
-    → Back (optional_written TRANSPORT_SOCKET.now socket_faults) (is_written TRANSPORT_SOCKET.now) (object_of (chain_fields chain)) mutual_tls
+    → Back (optional_written TRANSPORT_SOCKET.now socket_faults) (is_written TRANSPORT_SOCKET.now) (object_of (chain_fields chain))
+    mutual_tls
 socket-field-back chain true e = record {
   passes = optional-at (chain_fields chain) refl TRANSPORT_SOCKET.now _ socket_written (rw e refl) socket-passes;
   back = ap (λ o. is_some o) (get-object TRANSPORT_SOCKET.now (chain_fields chain) refl) ∙ rw e refl;
@@ -141,9 +137,9 @@ one-more earlier chain (later ∷ chains) h apart = (
 apart-from : (earlier : List FilterChain) (index : ℕ) (chains : List FilterChain) (at : Steps) → are_distinct chains ≡ true
     → AreApart earlier chains → first (duplicates earlier index chains at) ≡ None
 apart-from earlier index [] at h apart = refl
-apart-from earlier index (chain ∷ chains) at h apart = none-in-both _ _
-    (rw apart.0 refl)
-    (apart-from (earlier ++ chain ∷ []) (index + 1) chains at (and_parts _ _ h).1 (one-more earlier chain chains (and_parts _ _ h).0 apart.1))
+apart-from earlier index (chain ∷ chains) at h apart =
+    let more = one-more earlier chain chains (and_parts _ _ h).0 apart.1 in
+    none-in-both _ _ (rw apart.0 refl) (apart-from (earlier ++ chain ∷ []) (index + 1) chains at (and_parts _ _ h).1 more)
 
 -- distinct chains have no fault
 pub distinct-pass : (chains : List FilterChain) → are_distinct chains ≡ true → (at : Steps) → first (duplicates [] 0 chains at) ≡ None

@@ -1,16 +1,14 @@
 -- Lists whose last entry has a form of its own: what is written of the entries and of the last one passes, and means them.
-use Rattle.std.proofs.Common.{◌≡◌, ℕ, ◌+◌, ◌-◌, Bool, true, List, [], ◌∷◌, ◌++◌, map, length, arith, None, refl, sym, ap, ap₂, ◌∙◌}
-use Rattle.std.proofs.lemmas.Bool.{and_parts}
+use Rattle.std.proofs.Common.{◌≡◌, ◌+◌, ◌-◌, Bool, true, List, [], ◌∷◌, ◌++◌, map, length, arith, refl, ap}
 use Rattle.std.specs.List.{list_all}
-use Rattle.serde_json.specs.Data.{Data, array, Items, no_items, item}
+use Rattle.serde_json.specs.Data.{Data, array, item}
 use Rattle.serde_json.specs.Events.{items_len}
 use Rattle.serde_json.specs.View.{items_of as items}
-use Rattle.mesh_doc.specs.Faults.{Check, first}
-use Rattle.mesh_doc.specs.Lists.{each_in}
-use Rattle.mesh_doc.specs.Places.{Steps, at_index}
-use Rattle.mesh_doc.specs.Turns.{each_in_turn}
+use Rattle.mesh_doc.specs.Faults.{Check}
+use Rattle.mesh_doc.specs.Places.{at_index}
 use Rattle.envoy_types.proofs.FieldsBack.{Passes, none-in-both}
-use Rattle.envoy_types.specs.SmallForms.{each_faults, ending_with, front_in, front_of, items_all, last_in, last_of}
+use Rattle.envoy_types.proofs.PartsBack.{Back, each-back, entries-pass}
+use Rattle.envoy_types.specs.SmallForms.{ending_with, front_in, front_of, items_all, last_in, last_of}
 
 -- ---- the parts of such a list
 
@@ -30,38 +28,28 @@ ending-length written (x ∷ xs) e = omega (arith, ending-length written xs e)
 
 -- ---- entries that are written
 
-module _ {A : Type 0} (written : A → Data) (printable : A → Bool) where
-  pub each-passes : (f : Check) → ((x : A) → printable x ≡ true → Passes f (written x)) → (xs : List A) → list_all printable xs ≡ true
-      → (index : ℕ) (at : Steps) → first (each_in_turn {S = Unit {0}} (λ _. f) (λ seen _. seen) tt index (items (map written xs)) at) ≡ None
-  each-passes f p [] h index at = refl
-  each-passes f p (x ∷ xs) h index at = none-in-both _ _
-      ((p x (and_parts _ _ h).0).clean (at_index index at)) (each-passes f p xs (and_parts _ _ h).1 (index + 1) at)
-
-  pub each-back : (value : Data → A) → ((x : A) → printable x ≡ true → value (written x) ≡ x) → (xs : List A) → list_all printable xs ≡ true
-      → each_in value (items (map written xs)) ≡ xs
-  each-back value p [] h = refl
-  each-back value p (x ∷ xs) h =
-      ap₂ (λ (y : A) (ys : List A). y ∷ ys) (p x (and_parts _ _ h).0) (each-back value p xs (and_parts _ _ h).1)
-
-  pub items-pass : (test : Data → Bool) → ((x : A) → test (written x) ≡ true) → (xs : List A)
-      → items_all test (items (map written xs)) ≡ true
-  items-pass test p [] = refl
-  items-pass test p (x ∷ xs) = rw (p x) (items-pass test p xs)
-
+module _ {A : Type 0} (f : Check) (value : Data → A) (written : A → Data) (P : A → Bool)
+    (each : (x : A) → P x ≡ true → Back f value (written x) x) where
   -- entries of the first form, and then one of the second
-  pub ending-passes : (f g : Check) → ((x : A) → printable x ≡ true → Passes f (written x)) → (xs : List A) → list_all printable xs ≡ true
-      → (e : Data) → Passes g e → Passes (ending_with f g) (array (items (map written xs ++ e ∷ [])))
+  pub ending-passes : (xs : List A) → list_all P xs ≡ true → (g : Check) (e : Data) → Passes g e
+      → Passes (ending_with f g) (array (items (map written xs ++ e ∷ [])))
   unfolding ending_with
-  ending-passes f g p xs h e q = record {
+  ending-passes xs h g e q = record {
     clean = λ at. rw (front-ending (map written xs) e, last-ending (map written xs) e)
-        (none-in-both _ _ (each-passes f p xs h 0 at) (q.clean (at_index (items_len (items (map written xs ++ e ∷ [])) - 1) at)));
+        (none-in-both _ _ (entries-pass f value written P each 0 xs at h)
+        (q.clean (at_index (items_len (items (map written xs ++ e ∷ [])) - 1) at)));
   }
 
-  -- the entries before the last
-  pub front-back : (value : Data → A) → ((x : A) → printable x ≡ true → value (written x) ≡ x) → (xs : List A) → list_all printable xs ≡ true
-      → (e : Data) → front_in value (array (items (map written xs ++ e ∷ []))) ≡ xs
+  -- what the entries before the last mean
+  pub front-back : (xs : List A) → list_all P xs ≡ true → (e : Data) → front_in value (array (items (map written xs ++ e ∷ []))) ≡ xs
   unfolding front_in
-  front-back value p xs h e = rw (front-ending (map written xs) e) (each-back value p xs h)
+  front-back xs h e = rw (front-ending (map written xs) e) (each-back f value written P each xs h)
+
+-- each entry passes the test of its kind
+pub items-pass : {A : Type 0} (written : A → Data) (test : Data → Bool) → ((x : A) → test (written x) ≡ true) → (xs : List A)
+    → items_all test (items (map written xs)) ≡ true
+items-pass written test p [] = refl
+items-pass written test p (x ∷ xs) = rw (p x) (items-pass written test p xs)
 
 -- the last one
 pub last-back : {B : Type 0} (value : Data → B) (ds : List Data) (e : Data) → last_in value (array (items (ds ++ e ∷ []))) ≡ value e

@@ -1,7 +1,6 @@
 -- What is written of the filters of a chain is read back: the TCP proxy with the filters before it, and the connection manager.
-use Rattle.std.proofs.Common.{◌≡◌, ℕ, ◌+◌, Bool, true, false, ◌||◌, nat_le, List, [], ◌∷◌, ◌++◌, length, map, refl, sym, subst, ap, ap₂, ◌∙◌}
+use Rattle.std.proofs.Common.{◌≡◌, ℕ, ◌+◌, true, false, ◌||◌, nat_le, List, [], ◌∷◌, ◌++◌, length, map, refl, sym, subst, ap, ap₂, ◌∙◌}
 use Rattle.std.proofs.lemmas.Bool.{and_parts}
-use Rattle.std.proofs.lemmas.List.{length-append}
 use Rattle.std.specs.Str.{bytes_eq}
 use Rattle.serde_json.specs.Data.{Data, array, string}
 use Rattle.serde_json.specs.View.{items_of as items}
@@ -13,10 +12,10 @@ use Rattle.envoy_types.proofs.AuthzBack.{http-authz-back, network-authz-back}
 use Rattle.envoy_types.proofs.EndingsBack.{ending-length, ending-passes, front-back, front-ending, items-pass, last-back, last-ending}
 use Rattle.envoy_types.proofs.FieldsBack.{Passes, behind, both, demanded, strict-object}
 use Rattle.envoy_types.proofs.JwtBack.{jwt-back}
-use Rattle.envoy_types.proofs.ObjectsBack.{given-passes, passing, required-at, required-field, required-means}
+use Rattle.envoy_types.proofs.ObjectsBack.{given-passes, passing, required-at, required-field}
 use Rattle.envoy_types.proofs.PartsBack.{Back, fixed-passes, list-passes, named-back, named-passes, plain-passes, sole-back, text-back}
 use Rattle.envoy_types.proofs.RbacBack.{http-rbac-back, network-rbac-back}
-use Rattle.envoy_types.specs.AuthzForms.{authz_in, http_authz_written, network_authz_written}
+use Rattle.envoy_types.specs.AuthzForms.{http_authz_written, network_authz_written}
 use Rattle.envoy_types.specs.FilterForms.{are_http_filters, are_tcp_filters, body_entries_faults, body_faults, body_in, body_is_printable}
 use Rattle.envoy_types.specs.FilterForms.{body_written, filters_are_printable, http_filter_faults, http_filter_in, http_filter_is_printable}
 use Rattle.envoy_types.specs.FilterForms.{http_filter_written, http_filters_faults, http_filters_written, is_http_filter, is_manager}
@@ -26,11 +25,14 @@ use Rattle.envoy_types.specs.FilterForms.{network_filter_written, proxy_config_f
 use Rattle.envoy_types.specs.FilterForms.{route_action_faults, route_config_faults, route_config_written, route_faults, route_match_faults}
 use Rattle.envoy_types.specs.FilterForms.{route_name_in, route_written, router_faults, router_written, virtual_host_faults}
 use Rattle.envoy_types.specs.FilterForms.{virtual_host_written}
-use Rattle.envoy_types.specs.JwtForms.{jwt_in, jwt_written}
-use Rattle.envoy_types.specs.RbacForms.{http_rbac_written, network_rbac_written, rbac_in}
-use Rattle.envoy_types.specs.SmallForms.{ending_with, fixed_faults, front_in, front_of, is_named, last_in, last_of, most_entries}
+use Rattle.envoy_types.specs.Jwt.{Authentication}
+use Rattle.envoy_types.specs.JwtForms.{jwt_written}
+use Rattle.envoy_types.specs.RbacForms.{http_rbac_written, network_rbac_written}
+use Rattle.envoy_types.specs.SmallForms.{fixed_faults, front_in, is_named, last_in, most_entries}
 use Rattle.envoy_types.specs.SmallForms.{plain_config_faults, short_list_faults, sole_list}
-use Rattle.envoy_types.specs.WrittenFields.{Field, field, named_written, object_of, sole_field}
+use Rattle.envoy_types.specs.WrittenFields.{Field, field, named_written, object_of}
+use Rattle.envoy_types.specs.declared.access.Rbac.{Rbac}
+use Rattle.envoy_types.specs.declared.authz.ExtAuthz.{ExtAuthz}
 use Rattle.envoy_types.specs.declared.chains.ChainBody.{ChainBody}
 use Rattle.envoy_types.specs.declared.chains.ChainBody.TheVariants.{Tcp, Http}
 use Rattle.envoy_types.specs.declared.chains.HttpFilter.{HttpFilter}
@@ -71,49 +73,73 @@ named-is : (name word : List ℕ) (config : Data) → is_named word (named_writt
 unfolding is_named named_written
 named-is name word config = refl
 
+network-rbac-is : (word : List ℕ) (rbac : Rbac) → is_named word (network_rbac_written rbac) ≡ bytes_eq NETWORK_RBAC_NAME.now word
+unfolding network_rbac_written
+network-rbac-is word rbac = named-is NETWORK_RBAC_NAME.now word _
+
+network-authz-is : (word : List ℕ) (authz : ExtAuthz) → is_named word (network_authz_written authz) ≡ bytes_eq NETWORK_AUTHZ_NAME.now word
+unfolding network_authz_written
+network-authz-is word authz = named-is NETWORK_AUTHZ_NAME.now word _
+
+http-rbac-is : (word : List ℕ) (rbac : Rbac) → is_named word (http_rbac_written rbac) ≡ bytes_eq HTTP_RBAC_NAME.now word
+unfolding http_rbac_written
+http-rbac-is word rbac = named-is HTTP_RBAC_NAME.now word _
+
+http-authz-is : (word : List ℕ) (authz : ExtAuthz) → is_named word (http_authz_written authz) ≡ bytes_eq HTTP_AUTHZ_NAME.now word
+unfolding http_authz_written
+http-authz-is word authz = named-is HTTP_AUTHZ_NAME.now word _
+
+jwt-is : (word : List ℕ) (jwt : Authentication) → is_named word (jwt_written jwt) ≡ bytes_eq JWT_NAME.now word
+unfolding jwt_written
+jwt-is word jwt = named-is JWT_NAME.now word _
+
 network-filter-back : (filter : NetworkFilter) → network_filter_is_printable filter ≡ true
     → Back network_filter_faults network_filter_in (network_filter_written filter) filter
-unfolding network_filter_faults network_filter_in network_filter_written network_filter_is_printable network_rbac_written network_authz_written
+unfolding network_filter_faults network_filter_in network_filter_written network_filter_is_printable
 network-filter-back (network.Rbac rbac) h =
     let known = network-rbac-back rbac h in
-    let is : is_named NETWORK_RBAC_NAME.now (network_rbac_written rbac) ≡ true = named-is NETWORK_RBAC_NAME.now NETWORK_RBAC_NAME.now _ in
+    let is : is_named NETWORK_RBAC_NAME.now (network_rbac_written rbac) ≡ true = network-rbac-is NETWORK_RBAC_NAME.now rbac in
     record { passes = record { clean = λ at. rw is (known.passes.clean at) }; back = rw is (ap (λ r. network.Rbac r) known.back) }
 network-filter-back (network.ExtAuthz authz) h =
     let known = network-authz-back authz h in
-    let is : is_named NETWORK_RBAC_NAME.now (network_authz_written authz) ≡ false = named-is NETWORK_AUTHZ_NAME.now NETWORK_RBAC_NAME.now _ in
+    let is : is_named NETWORK_RBAC_NAME.now (network_authz_written authz) ≡ false = network-authz-is NETWORK_RBAC_NAME.now authz in
     record { passes = record { clean = λ at. rw is (known.passes.clean at) }; back = rw is (ap (λ r. network.ExtAuthz r) known.back) }
 
 network-kind : (filter : NetworkFilter) → is_network_filter (network_filter_written filter) ≡ true
-unfolding network_filter_written network_rbac_written network_authz_written
-network-kind (network.Rbac rbac) = rw (named-is NETWORK_RBAC_NAME.now NETWORK_RBAC_NAME.now) refl
+unfolding network_filter_written
+network-kind (network.Rbac rbac) = rw (network-rbac-is NETWORK_RBAC_NAME.now rbac) refl
 network-kind (network.ExtAuthz authz) =
-    rw (named-is NETWORK_AUTHZ_NAME.now NETWORK_RBAC_NAME.now, named-is NETWORK_AUTHZ_NAME.now NETWORK_AUTHZ_NAME.now) refl
+    rw (network-authz-is NETWORK_RBAC_NAME.now authz, network-authz-is NETWORK_AUTHZ_NAME.now authz) refl
 
 http-filter-back : (filter : HttpFilter) → http_filter_is_printable filter ≡ true
     → Back http_filter_faults http_filter_in (http_filter_written filter) filter
-unfolding http_filter_faults http_filter_in http_filter_written http_filter_is_printable http_rbac_written http_authz_written jwt_written
+unfolding http_filter_faults http_filter_in http_filter_written http_filter_is_printable
 http-filter-back (http.Rbac rbac) h =
     let known = http-rbac-back rbac h in
-    let is : is_named HTTP_RBAC_NAME.now (http_rbac_written rbac) ≡ true = named-is HTTP_RBAC_NAME.now HTTP_RBAC_NAME.now _ in
+    let is : is_named HTTP_RBAC_NAME.now (http_rbac_written rbac) ≡ true = http-rbac-is HTTP_RBAC_NAME.now rbac in
     record { passes = record { clean = λ at. rw is (known.passes.clean at) }; back = rw is (ap (λ r. http.Rbac r) known.back) }
 http-filter-back (http.ExtAuthz authz) h =
     let known = http-authz-back authz h in
-    let no : is_named HTTP_RBAC_NAME.now (http_authz_written authz) ≡ false = named-is HTTP_AUTHZ_NAME.now HTTP_RBAC_NAME.now _ in
-    let is : is_named HTTP_AUTHZ_NAME.now (http_authz_written authz) ≡ true = named-is HTTP_AUTHZ_NAME.now HTTP_AUTHZ_NAME.now _ in
-    record { passes = record { clean = λ at. rw (no, is) (known.passes.clean at) }; back = rw (no, is) (ap (λ r. http.ExtAuthz r) known.back) }
+    let no : is_named HTTP_RBAC_NAME.now (http_authz_written authz) ≡ false = http-authz-is HTTP_RBAC_NAME.now authz in
+    let is : is_named HTTP_AUTHZ_NAME.now (http_authz_written authz) ≡ true = http-authz-is HTTP_AUTHZ_NAME.now authz in
+    record {
+      passes = record { clean = λ at. rw (no, is) (known.passes.clean at) };
+      back = rw (no, is) (ap (λ r. http.ExtAuthz r) known.back);
+    }
 http-filter-back (http.Jwt jwt) h =
     let known = jwt-back jwt h in
-    let no : is_named HTTP_RBAC_NAME.now (jwt_written jwt) ≡ false = named-is JWT_NAME.now HTTP_RBAC_NAME.now _ in
-    let none : is_named HTTP_AUTHZ_NAME.now (jwt_written jwt) ≡ false = named-is JWT_NAME.now HTTP_AUTHZ_NAME.now _ in
-    record { passes = record { clean = λ at. rw (no, none) (known.passes.clean at) }; back = rw (no, none) (ap (λ r. http.Jwt r) known.back) }
+    let no : is_named HTTP_RBAC_NAME.now (jwt_written jwt) ≡ false = jwt-is HTTP_RBAC_NAME.now jwt in
+    let nor : is_named HTTP_AUTHZ_NAME.now (jwt_written jwt) ≡ false = jwt-is HTTP_AUTHZ_NAME.now jwt in
+    record {
+      passes = record { clean = λ at. rw (no, nor) (known.passes.clean at) };
+      back = rw (no, nor) (ap (λ r. http.Jwt r) known.back);
+    }
 
 http-kind : (filter : HttpFilter) → is_http_filter (http_filter_written filter) ≡ true
-unfolding http_filter_written http_rbac_written http_authz_written jwt_written
-http-kind (http.Rbac rbac) = rw (named-is HTTP_RBAC_NAME.now HTTP_RBAC_NAME.now) refl
-http-kind (http.ExtAuthz authz) =
-    rw (named-is HTTP_AUTHZ_NAME.now HTTP_RBAC_NAME.now, named-is HTTP_AUTHZ_NAME.now HTTP_AUTHZ_NAME.now) refl
-http-kind (http.Jwt jwt) =
-    rw (named-is JWT_NAME.now HTTP_RBAC_NAME.now, named-is JWT_NAME.now HTTP_AUTHZ_NAME.now, named-is JWT_NAME.now JWT_NAME.now) refl
+unfolding http_filter_written
+http-kind (http.Rbac rbac) = rw (http-rbac-is HTTP_RBAC_NAME.now rbac) refl
+http-kind (http.ExtAuthz authz) = rw (http-authz-is HTTP_RBAC_NAME.now authz, http-authz-is HTTP_AUTHZ_NAME.now authz) refl
+http-kind (http.Jwt jwt) = rw (jwt-is HTTP_RBAC_NAME.now jwt, jwt-is HTTP_AUTHZ_NAME.now jwt, jwt-is JWT_NAME.now jwt) refl
 
 -- ---- the filters before the router
 
@@ -137,7 +163,7 @@ http-are filters =
     rw (
       front-ending (map http_filter_written filters) router_written,
       last-ending (map http_filter_written filters) router_written,
-      items-pass http_filter_written http_filter_is_printable is_http_filter http-kind filters,
+      items-pass http_filter_written is_http_filter http-kind filters,
     ) router-is
 
 http-filters-back : (filters : List HttpFilter) → filters_are_printable http_filter_is_printable filters ≡ true
@@ -148,9 +174,9 @@ http-filters-back filters h =
     record {
       passes = behind (behind (few-pass http_filter_written filters router_written few.0)
           (demanded (λ d. are_http_filters (items_of d)) reason.BadForm _ (http-are filters)))
-          (ending-passes http_filter_written http_filter_is_printable http_filter_faults router_faults
-          (λ x p. (http-filter-back x p).passes) filters few.1 router_written router-passes);
-      back = front-back http_filter_written http_filter_is_printable http_filter_in (λ x p. (http-filter-back x p).back) filters few.1
+          (ending-passes http_filter_faults http_filter_in http_filter_written http_filter_is_printable http-filter-back filters few.1
+          router_faults router_written router-passes);
+      back = front-back http_filter_faults http_filter_in http_filter_written http_filter_is_printable http-filter-back filters few.1
           router_written;
     }
 
@@ -188,7 +214,7 @@ virtual-host-passes name =
 host-passes : (read name : List ℕ) → read ≡ name
     → Passes (sole_list (virtual_host_faults read)) (array (items (virtual_host_written name ∷ [])))
 host-passes read name e = subst (λ n. Passes (sole_list (virtual_host_faults n)) (array (items (virtual_host_written name ∷ [])))) (sym e)
-    (sole-back (virtual_host_faults name) _ (virtual_host_written name) (virtual_host_written name) (passing (virtual-host-passes name))).passes
+    (sole-back _ _ (virtual_host_written name) (virtual_host_written name) (passing (virtual-host-passes name))).passes
 
 route-config-back : (name : List ℕ)
     → Back route_config_faults (required_written_in NAME.now text_in) (route_config_written name) name
@@ -217,7 +243,8 @@ manager-back filters cluster h =
     ∷ field STAT_PREFIX.now (string cluster)
     ∷ [] in
     let all = required-field fs refl HTTP_FILTERS.now _ (front_in http_filter_in) _ filters refl (http-filters-back filters h) in
-    let route = required-field fs refl ROUTE_CONFIG.now _ (required_written_in NAME.now text_in) _ cluster refl (route-config-back cluster) in
+    let route = required-field fs refl ROUTE_CONFIG.now _ (required_written_in NAME.now text_in) _ cluster refl
+    (route-config-back cluster) in
     named-back HTTP_MANAGER_NAME.now _ manager_config_in (object_of fs) (Http filters cluster) (record {
       passes = strict-object (TYPE.now ∷ HTTP_FILTERS.now ∷ ROUTE_CONFIG.now ∷ STAT_PREFIX.now ∷ []) _ fs refl
           (both (required-at fs refl TYPE.now _ _ refl (fixed-passes HTTP_MANAGER_TYPE.now))
@@ -241,7 +268,7 @@ tcp-are filters cluster =
     rw (
       front-ending (map network_filter_written filters) (proxy_written cluster),
       last-ending (map network_filter_written filters) (proxy_written cluster),
-      items-pass network_filter_written network_filter_is_printable is_network_filter network-kind filters,
+      items-pass network_filter_written is_network_filter network-kind filters,
     ) (proxy-is cluster)
 
 -- a list that ends with the proxy is no connection manager
@@ -263,16 +290,17 @@ tcp-back filters cluster h =
     let no : is_manager (items (map network_filter_written filters ++ proxy_written cluster ∷ [])) ≡ false =
     no-manager (map network_filter_written filters) cluster in
     let few = and_parts (nat_le (length filters + 1) most_entries) _ h in
-    let ends = ending-passes network_filter_written network_filter_is_printable network_filter_faults proxy_faults
-    (λ x p. (network-filter-back x p).passes) filters few.1 (proxy_written cluster) (proxy-back cluster).passes in
+    let ends = ending-passes network_filter_faults network_filter_in network_filter_written network_filter_is_printable network-filter-back
+    filters few.1 proxy_faults (proxy_written cluster) (proxy-back cluster).passes in
+    let front = front-back network_filter_faults network_filter_in network_filter_written network_filter_is_printable network-filter-back
+    filters few.1 (proxy_written cluster) in
+    let last = last-back proxy_in (map network_filter_written filters) (proxy_written cluster) ∙ (proxy-back cluster).back in
     record {
       passes = behind (behind (few-pass network_filter_written filters (proxy_written cluster) few.0)
-          (demanded (λ v. is_manager (items_of v) || are_tcp_filters (items_of v)) reason.BadForm d (rw (no, tcp-are filters cluster) refl)))
+          (demanded (λ v. is_manager (items_of v) || are_tcp_filters (items_of v)) reason.BadForm d
+          (rw (no, tcp-are filters cluster) refl)))
           (record { clean = λ at. rw no (ends.clean at) });
-      back = rw no (ap₂ (λ f c. Tcp f c)
-          (front-back network_filter_written network_filter_is_printable network_filter_in (λ x p. (network-filter-back x p).back) filters few.1
-          (proxy_written cluster))
-          (last-back proxy_in (map network_filter_written filters) (proxy_written cluster) ∙ (proxy-back cluster).back));
+      back = rw no (ap₂ (λ f c. Tcp f c) front last);
     }
 
 http-back : (filters : List HttpFilter) (cluster : List ℕ) → filters_are_printable http_filter_is_printable filters ≡ true
@@ -281,7 +309,7 @@ unfolding body_faults body_in body_entries_faults last_in
 http-back filters cluster h =
     let d : Data = array (items (manager_written filters cluster ∷ [])) in
     let is = manager-is filters cluster in
-    let sole = sole-back manager_faults manager_in (manager_written filters cluster) (Http filters cluster) (manager-back filters cluster h) in
+    let sole = sole-back manager_faults manager_in _ (Http filters cluster) (manager-back filters cluster h) in
     record {
       passes = behind (behind (list-passes most_entries (manager_written filters cluster ∷ []) refl)
           (demanded (λ v. is_manager (items_of v) || are_tcp_filters (items_of v)) reason.BadForm d (rw is refl)))

@@ -24,10 +24,9 @@ use Rattle.envoy_types.specs.JwtForms.{check_is_printable, check_written, jwt_co
 use Rattle.envoy_types.specs.JwtForms.{jwt_is_printable, jwt_written, prefix_match_faults, provider_names, providers_in}
 use Rattle.envoy_types.specs.Jwt.{Authentication, Provider}
 use Rattle.envoy_types.specs.Order.{names_rise}
-use Rattle.envoy_types.specs.SmallForms.{is_short_list}
 use Rattle.envoy_types.specs.ProviderForms.{provider_faults, provider_in, provider_is_printable}
 use Rattle.envoy_types.specs.ProviderForms.{provider_written}
-use Rattle.envoy_types.specs.SmallForms.{any_list, given, is_written, list_in_turn_that, most_entries, short_list_faults}
+use Rattle.envoy_types.specs.SmallForms.{any_list, given, is_short_list, is_written, list_in_turn_that, most_entries, short_list_faults}
 use Rattle.envoy_types.specs.WrittenFields.{Field, field, list_written, map_written, object_of, optional_field, sole_field}
 use Rattle.envoy_types.specs.declared.jwt.JwtCheck.{JwtCheck}
 use Rattle.envoy_types.specs.declared.jwt.Requirement.{Requirement}

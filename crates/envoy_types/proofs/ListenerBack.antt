@@ -2,7 +2,7 @@
 use Rattle.std.proofs.Common.{◌≡◌, ℕ, true, nat_le, List, [], ◌∷◌, length, refl, sym, ◌∙◌}
 use Rattle.std.proofs.lemmas.Bool.{and_parts}
 use Rattle.std.specs.List.{list_all}
-use Rattle.serde_json.specs.Data.{Data, string}
+use Rattle.serde_json.specs.Data.{string}
 use Rattle.mesh_doc.specs.Faults.{first}
 use Rattle.mesh_doc.specs.Fields.{required_written, required_written_in}
 use Rattle.mesh_doc.specs.Kinds.{number_in, text_faults, text_in}
@@ -15,7 +15,7 @@ use Rattle.envoy_types.proofs.ObjectsBack.{required-at, required-field, required
 use Rattle.envoy_types.proofs.PartsBack.{Back, fixed-passes, list-that-back, number-within-back, text-back}
 use Rattle.envoy_types.proofs.SocketsBack.{listener-filters-pass}
 use Rattle.envoy_types.specs.ChainForms.{are_distinct, chain_faults, chain_in, chain_is_printable, chain_written}
-use Rattle.envoy_types.specs.ListenerForms.{SpellsOne, Spells, WrittenSpells, address_faults, address_in, address_written, chains_faults}
+use Rattle.envoy_types.specs.ListenerForms.{SpellsOne, Spells, address_faults, address_in, address_written, chains_faults}
 use Rattle.envoy_types.specs.ListenerForms.{chains_in, duplicate_faults, is_printable, listener_faults, listener_in, listener_written}
 use Rattle.envoy_types.specs.ListenerForms.{port_in, socket_address_faults}
 use Rattle.envoy_types.specs.SmallForms.{any_port_faults, is_within, most_chains}
@@ -39,7 +39,8 @@ module _ (address : List ℕ) (port : ℕ) (h : is_within 0 65535 port ≡ true)
   text-field-back : Back (required_written ADDRESS.now text_faults) (required_written_in ADDRESS.now text_in) (object_of inner) address
   text-field-back = required-field inner refl ADDRESS.now text_faults text_in _ _ refl (text-back address)
 
-  port-field-back : Back (required_written PORT_VALUE.now any_port_faults) (required_written_in PORT_VALUE.now number_in) (object_of inner) port
+  port-field-back : Back (required_written PORT_VALUE.now any_port_faults) (required_written_in PORT_VALUE.now number_in)
+      (object_of inner) port
   port-field-back = required-field inner refl PORT_VALUE.now _ number_in _ _ refl (number-within-back 0 65535 port h)
 
   address-passes : Passes address_faults (address_written address port)

@@ -1,9 +1,9 @@
 -- What is written of a token provider is read back.
 use Rattle.std.proofs.Common.{◌≡◌, ℕ, ◌==◌, Bool, true, false, ◌&&◌, not, List, [], ◌∷◌, ◌++◌, length, map, Option, Some, None}
-use Rattle.std.proofs.Common.{option_map, unwrap_or, refl, ap, ap₂, ◌∙◌, if◌then◌else◌}
+use Rattle.std.proofs.Common.{option_map, unwrap_or, refl, ap, ap₂, ◌∙◌}
 use Rattle.std.proofs.lemmas.Bool.{and_parts}
 use Rattle.std.specs.List.{filter_map, list_all}
-use Rattle.serde_json.specs.Data.{Data, boolean, string, Items, no_items, item}
+use Rattle.serde_json.specs.Data.{Data, string, Items, no_items, item}
 use Rattle.serde_json.specs.Find.{get}
 use Rattle.mesh_doc.specs.Faults.{Check}
 use Rattle.mesh_doc.specs.Fields.{optional_written, optional_written_in, required_written, required_written_in, strict}
@@ -21,14 +21,13 @@ use Rattle.mesh_policy.specs.declared.jwt.TokenPlace.{TokenPlace}
 use Rattle.mesh_policy.specs.declared.jwt.TokenPlace.TheVariants as place
 use Rattle.envoy_types.specs.HeaderForms.{is_lower_token}
 use Rattle.envoy_types.specs.Jwt.{Provider}
-use Rattle.envoy_types.specs.SmallForms.{is_short_list}
 use Rattle.envoy_types.specs.ProviderForms.{from_header_faults, from_header_in, from_header_written, from_param_in, header_of}
 use Rattle.envoy_types.specs.ProviderForms.{param_of, keys_field, payload_header_is_printable, provider_faults, provider_in}
 use Rattle.envoy_types.specs.ProviderForms.{provider_is_printable, provider_rule_in, provider_written, token_fields_faults}
 use Rattle.envoy_types.specs.ProviderForms.{keys_in, keys_uri_faults, keys_uri_written, local_keys_faults, local_keys_in}
 use Rattle.envoy_types.specs.ProviderForms.{remote_keys_faults, remote_keys_in, lower_token_faults}
 use Rattle.envoy_types.specs.ProviderForms.{place_is_printable, places_are_printable, places_in}
-use Rattle.envoy_types.specs.SmallForms.{fixed_faults, most_entries, one_of}
+use Rattle.envoy_types.specs.SmallForms.{fixed_faults, is_short_list, most_entries, one_of}
 use Rattle.envoy_types.specs.WrittenFields.{Field, field, list_field, object_of, optional_field, sole_field, text_field}
 use Rattle.envoy_types.specs.WrittenFields.{truth_field}
 use Rattle.envoy_types.specs.declared.fixed.TheConstants.{KEYS_CLUSTER, KEYS_TIME, PAYLOAD}
@@ -37,32 +36,9 @@ use Rattle.envoy_types.specs.declared.keys.TheConstants.{LOCAL_JWKS, NAME, AUDIE
 use Rattle.envoy_types.specs.declared.keys.TheConstants.{PAYLOAD_IN_METADATA, REMOTE_JWKS, TIMEOUT, URI, VALUE_PREFIX}
 use Rattle.envoy_types.proofs.FieldsBack.{Passes, absent-passes, both, get-object, optional-passes, required-back}
 use Rattle.envoy_types.proofs.FieldsBack.{required-passes, strict-object}
-use Rattle.envoy_types.proofs.PartsBack.{Back, fixed-passes, listed-back, not-zero, one-passes, option-all, optional-field-back}
-use Rattle.envoy_types.proofs.PartsBack.{same-text, tested-back, text-back, text-passes, truth-back}
-
--- ---- fields that are not written where they have their default
-
--- a text that may be empty
-pub text-field-back : (name : List ℕ) (d : Data) (t : List ℕ) → get name d ≡ (text_field name t).1
-    → Back (optional_written name text_faults) (λ v. unwrap_or (optional_written_in name text_in v) []) d t
-unfolding optional_written_in
-text-field-back name d [] e = record { passes = absent-passes name text_faults d e; back = rw e refl }
-text-field-back name d (c ∷ cs) e =
-    let there : get name d ≡ Some (string (c ∷ cs)) = e ∙ ap (λ b. if b then None else Some (string (c ∷ cs))) (not-zero (length cs)) in
-    record {
-      passes = optional-passes name text_faults d (string (c ∷ cs)) there (text-passes (c ∷ cs));
-      back = rw there (text-back (c ∷ cs)).back;
-    }
-
--- a truth value that is written where it is `true`
-pub truth-field-back : (name : List ℕ) (d : Data) (b : Bool) → get name d ≡ (truth_field name b).1
-    → Back (optional_written name truth_faults) (λ v. unwrap_or (optional_written_in name truth_in v) false) d b
-unfolding optional_written_in
-truth-field-back name d false e = record { passes = absent-passes name truth_faults d e; back = rw e refl }
-truth-field-back name d true e = record {
-  passes = optional-passes name truth_faults d (boolean true) e (truth-back true).passes;
-  back = rw e (truth-back true).back;
-}
+use Rattle.envoy_types.proofs.ObjectsBack.{text-field-back, texts-back, truth-field-back}
+use Rattle.envoy_types.proofs.PartsBack.{Back, fixed-passes, listed-back, one-passes, option-all, optional-field-back}
+use Rattle.envoy_types.proofs.PartsBack.{same-text, tested-back, text-back, text-passes}
 
 -- ---- places
 
@@ -137,15 +113,6 @@ listed-map : {A B : Type 0} (g : A → B) (value : Data → A) (name : List ℕ)
     → listed_written_in name (λ v. g (value v)) d ≡ map g (listed_written_in name value d)
 unfolding listed_written_in
 listed-map g value name d = found-map g value (get name d)
-
-all-pass : (ts : List (List ℕ)) → list_all (λ _. true) ts ≡ true
-all-pass [] = refl
-all-pass (t ∷ ts) = all-pass ts
-
--- a list of any texts
-pub texts-back : (name : List ℕ) (d : Data) (ts : List (List ℕ)) → get name d ≡ (list_field name string ts).1
-    → is_short_list ts ≡ true → Back (listed_written name most_entries text_faults) (listed_written_in name text_in) d ts
-texts-back name d ts e short = listed-back name text_faults text_in string (λ _. true) (λ t _. text-back t) d ts e short (all-pass ts)
 
 module _ (d : Data) (places : List TokenPlace) (printable : places_are_printable places ≡ true)
     (headers : get FROM_HEADERS.now d ≡ (list_field FROM_HEADERS.now from_header_written (filter_map header_of places)).1)

@@ -1,15 +1,15 @@
 -- What is written of role-based access control filters is read back.
-use Rattle.std.proofs.Common.{◌≡◌, ℕ, Bool, true, List, [], ◌∷◌, ◌++◌, Option, Some, None, option_map, unwrap_or, refl, ap, ◌∙◌}
+use Rattle.std.proofs.Common.{◌≡◌, true, List, [], ◌∷◌, ◌++◌, Option, Some, None, option_map, unwrap_or, refl, ap, ◌∙◌}
 use Rattle.std.proofs.lemmas.Bool.{and_parts}
-use Rattle.serde_json.specs.Data.{Data, string}
+use Rattle.serde_json.specs.Data.{string}
 use Rattle.mesh_doc.specs.Kinds.{text_in}
 use Rattle.mesh_doc.specs.Known.{is_known}
 use Rattle.mesh_doc.specs.Maps.{map_in}
 use Rattle.mesh_tree.specs.declared.tree.Tree.{Tree}
-use Rattle.envoy_types.proofs.FieldsBack.{Passes, both, found, strict-object}
+use Rattle.envoy_types.proofs.FieldsBack.{both, found, strict-object}
 use Rattle.envoy_types.proofs.MapsBack.{map-back}
-use Rattle.envoy_types.proofs.ObjectsBack.{option-all, optional-at, optional-field, optional-means, required-at, required-field, text-at}
-use Rattle.envoy_types.proofs.PartsBack.{Back, fixed-passes, named-back, tested-back}
+use Rattle.envoy_types.proofs.ObjectsBack.{optional-at, optional-field, optional-means, required-at, required-field, text-at}
+use Rattle.envoy_types.proofs.PartsBack.{Back, fixed-passes, named-back, option-all, tested-back}
 use Rattle.envoy_types.proofs.PermissionsBack.{permission-own-names, permission-reads-back, permission-writes}
 use Rattle.envoy_types.proofs.PrincipalsBack.{principal-own-names, principal-reads-back, principal-writes}
 use Rattle.envoy_types.proofs.TreesBack.{tree-list-back}
@@ -22,7 +22,7 @@ use Rattle.envoy_types.specs.RbacForms.{optional_rules_are_printable, policy_fau
 use Rattle.envoy_types.specs.RbacForms.{rbac_config_in, rbac_fields, rbac_fields_faults, rbac_in, rbac_is_printable, rules_are_printable}
 use Rattle.envoy_types.specs.RbacForms.{rules_faults, rules_in, rules_written}
 use Rattle.envoy_types.specs.TreeForms.{tree_list_faults, tree_list_in, tree_list_is_printable, tree_written}
-use Rattle.envoy_types.specs.WrittenFields.{Field, are_different, field, field_names, list_written, map_written, object_of, optional_field}
+use Rattle.envoy_types.specs.WrittenFields.{Field, are_different, field, field_names, list_written, map_written, object_of}
 use Rattle.envoy_types.specs.WrittenFields.{text_field}
 use Rattle.envoy_types.specs.declared.access.Rbac.{Rbac}
 use Rattle.envoy_types.specs.declared.access.RbacAction.{RbacAction}

@@ -1,20 +1,19 @@
 -- What is written of the TLS socket and of the listener filters passes.
-use Rattle.std.proofs.Common.{◌≡◌, ℕ, true, List, [], ◌∷◌, refl}
+use Rattle.std.proofs.Common.{ℕ, true, List, [], ◌∷◌, refl}
 use Rattle.serde_json.specs.Data.{Data, array, boolean, string}
 use Rattle.serde_json.specs.View.{items_of}
-use Rattle.mesh_doc.specs.Faults.{Check}
 use Rattle.mesh_doc.specs.Kinds.{length_in, list_faults}
 use Rattle.mesh_doc.specs.Known.{is_known}
 use Rattle.mesh_doc.specs.Places.{at_index}
 use Rattle.mesh_doc.specs.Turns.{list_in_turn}
 use Rattle.envoy_types.proofs.FieldsBack.{Passes, both, strict-object}
 use Rattle.envoy_types.proofs.ObjectsBack.{passing, required-at}
-use Rattle.envoy_types.proofs.PartsBack.{fixed-passes, named-passes, plain-passes, sole-back, true-passes, type-passes}
-use Rattle.envoy_types.specs.SmallForms.{fixed_faults, list_in_turn_that, short_list_faults, sole_list, true_faults}
-use Rattle.envoy_types.specs.SocketForms.{certificates_faults, certificates_written, listener_filter_faults, listener_filters_faults}
+use Rattle.envoy_types.proofs.PartsBack.{fixed-passes, named-passes, plain-passes, sole-back, true-passes}
+use Rattle.envoy_types.specs.SmallForms.{list_in_turn_that, short_list_faults}
+use Rattle.envoy_types.specs.SocketForms.{certificates_faults, certificates_written, listener_filters_faults}
 use Rattle.envoy_types.specs.SocketForms.{listener_filters_written, original_dst_faults, secret_faults, secret_written, socket_faults}
 use Rattle.envoy_types.specs.SocketForms.{socket_written, tls_context_faults, tls_inspector_faults}
-use Rattle.envoy_types.specs.WrittenFields.{Field, config_written, field, named_written, object_of, sole_field}
+use Rattle.envoy_types.specs.WrittenFields.{Field, config_written, field, named_written}
 use Rattle.envoy_types.specs.declared.fixed.TheConstants.{MESH_ROOTS, OWN_CERTIFICATE}
 use Rattle.envoy_types.specs.declared.keys.TheConstants.{COMMON_TLS_CONTEXT, NAME, REQUIRE_CLIENT_CERTIFICATE, TLS_CERTIFICATES, TYPE}
 use Rattle.envoy_types.specs.declared.keys.TheConstants.{VALIDATION_CONTEXT}

@@ -84,7 +84,7 @@ value-back (OneOf m) h = list-match-back _ (OneOf m) (entry-words m (string-back
 
 -- ---- the keys down to it
 
-segment-back : (f : Check) (key : List ℕ) → Passes f (string key) → Back (segment_faults f) segment_in (segment_written key) key
+pub segment-back : (f : Check) (key : List ℕ) → Passes f (string key) → Back (segment_faults f) segment_in (segment_written key) key
 unfolding segment_faults segment_in required_written required_written_in text_in unknown_faults object_faults is_known
 segment-back f key p = record {
   passes = record { clean = λ at. rw (p.clean (at_key KEY.now at)) refl };

@@ -1,3 +1,4 @@
+-- The values are those of the first trees.
 use Rattle.std.proofs.Common.{◌≡◌, map, take}
 use Rattle.serde_json.specs.View.{view}
 use Rattle.envoy_types.specs.TreeForms.{tree_written}

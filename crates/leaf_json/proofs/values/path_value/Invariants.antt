@@ -1,3 +1,4 @@
+-- The values are those of `payload` and of the first keys.
 use Rattle.std.proofs.Common.{◌≡◌, ◌∷◌, map, take}
 use Rattle.serde_json.specs.View.{view}
 use Rattle.envoy_types.specs.ValueForms.{segment_written}

@@ -1,0 +1,4 @@
+pub mod Chosen
+pub mod Modes
+pub mod Ports
+pub mod Verdicts

@@ -1,3 +1,6 @@
 //! The filters of role-based access control that enforce authorization policies: each filter has the action of its
 //! policies, and one policy a rule, which holds exactly where the rule does.
 #![tactic(auto)]
+
+mod lists;
+mod operations;

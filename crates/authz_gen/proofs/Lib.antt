@@ -1,0 +1,4 @@
+pub mod Decided
+pub mod InOrder
+pub mod RuleHolds
+pub mod TreeHolds

@@ -87,24 +87,27 @@ module _ (case : Case) (seen : Seen) where
   no_http false h = refl
 
   rule-at : (policy : AuthorizationPolicy) (index : ℕ) (a : Action) (ss : List SourceSpec) (os : List OperationSpec) (cs : List Condition)
-      → asks_for_ports (record { sources = ss; operations = os; conditions = cs }) ≡ true
+      → not (rules.is_written ss) ≡ true → not (rules.is_written cs) ≡ true → not (list_any rules.operation_needs_http os) ≡ true
       → policy_holds (rule_policy_tcp policy (index, record { sources = ss; operations = os; conditions = cs })) case seen
       ≡ rules.rule_holds_tcp case seen a (record { sources = ss; operations = os; conditions = cs })
   unfolding rule_policy_tcp rules.rule_holds rules.rule_holds_tcp
-  rule-at policy index a [] os [] h =
-      let fields : not (list_any rules.operation_needs_http os) ≡ true = (and_parts _ _ h).1 in
+  rule-at policy index a [] os [] no_source no_condition fields =
       rw (
         permission-holds (record { sources = []; operations = os; conditions = [] }),
         holds-any admits,
         no_http (list_any rules.operation_needs_http os) fields,
       ) (joined (rules.is_allow a) (rules.one_of (rules.operation_holds case seen) (map rules.operation_without_http os)))
-  rule-at policy index a (s ∷ ss) os cs h =
-      let e : s ∷ ss ≡ [] = unwritten (s ∷ ss) (and_parts _ _ (and_parts _ _ h).0).0 in
+  rule-at policy index a (s ∷ ss) os cs no_source no_condition fields =
+      let e : s ∷ ss ≡ [] = unwritten (s ∷ ss) no_source in
       absurd cc
-  rule-at policy index a [] os (c ∷ cs) h =
-      let e : c ∷ cs ≡ [] = unwritten (c ∷ cs) (and_parts _ _ (and_parts _ _ h).0).1 in
+  rule-at policy index a [] os (c ∷ cs) no_source no_condition fields =
+      let e : c ∷ cs ≡ [] = unwritten (c ∷ cs) no_condition in
       absurd cc
 
   pub rule-holds : (policy : AuthorizationPolicy) (index : ℕ) (a : Action) (rule : Rule) → asks_for_ports rule ≡ true
       → policy_holds (rule_policy_tcp policy (index, rule)) case seen ≡ rules.rule_holds_tcp case seen a rule
-  rule-holds policy index a rule h = rule-at policy index a rule.sources rule.operations rule.conditions h
+  rule-holds policy index a rule h =
+      let fields = and_parts (not (rules.is_written rule.sources) && not (rules.is_written rule.conditions))
+          (not (list_any rules.operation_needs_http rule.operations)) h in
+      let parts = and_parts (not (rules.is_written rule.sources)) (not (rules.is_written rule.conditions)) fields.0 in
+      rule-at policy index a rule.sources rule.operations rule.conditions parts.0 parts.1 fields.1

@@ -17,7 +17,7 @@ use Rattle.mesh_policy.specs.declared.service.Protocol.TheVariants.{Tcp}
 use Rattle.envoy_types.specs.Access.{Rules, effective, first_position, policy_holds}
 use Rattle.envoy_types.specs.declared.access.RbacPolicy.{RbacPolicy}
 use Rattle.authz_gen.specs.Operations.{asks_for_ports}
-use Rattle.authz_gen.specs.Policies.{name_before, policies_tcp, rule_policies_tcp, rule_policy_tcp}
+use Rattle.authz_gen.specs.Policies.{DecidesTcp, name_before, policies_tcp, rbac_action, rule_policies_tcp, rule_policy_tcp}
 use Rattle.authz_gen.proofs.InOrder.{any-in_order}
 use Rattle.authz_gen.proofs.RuleHolds.{rule-holds}
 
@@ -69,3 +69,8 @@ module _ (case : Case) (seen : Seen) where
       → list_any holds (policies_tcp policies) ≡ some_holds Tcp case seen policies
   unfolding policies_tcp
   policies-hold policies h = any-in_order name_before holds (flat_map rule_policies_tcp policies) ∙ listed-hold policies h
+
+pub decides : (action : Action) (policies : List AuthorizationPolicy) → All AsksForPorts policies → DecidesTcp action policies
+decides action policies h =
+    λ case seen. is_some-effective (record { action = rbac_action action; policies = policies_tcp policies }) case seen
+    ∙ policies-hold case seen policies h

@@ -2,5 +2,9 @@
 //! policies, and one policy a rule, which holds exactly where the rule does.
 #![tactic(auto)]
 
+mod in_order;
 mod lists;
 mod operations;
+mod policies;
+
+pub use policies::tcp_rbac;

@@ -1,18 +1,23 @@
 -- The filter of role-based access control that enforces the policies of one action on TCP connections (Istio task
 -- "Authorization for TCP traffic"; Envoy v3 API reference, `config.rbac.v3.RBAC`).
-use Rattle.std.specs.Prelude.{◌≡◌, ℕ, Bool, All, IsTrue, List, [], ◌∷◌, flat_map, map, Some, None}
+use Rattle.std.specs.Prelude.{◌≡◌, ℕ, Bool, All, IsTrue, List, [], ◌∷◌, flat_map, is_some, map, Some, None}
 use Rattle.std.specs.List.{enumerate_from, list_all}
 use Rattle.mesh_policy.specs.AcceptedBundle.{AcceptedItems, same_policy}
 use Rattle.mesh_policy.specs.AcceptedRules.{AcceptedPolicy}
+use Rattle.mesh_policy.specs.Attributes.{Seen}
 use Rattle.mesh_policy.specs.Explanation.{rule_name}
 use Rattle.mesh_policy.specs.Lists.{in_order}
+use Rattle.mesh_policy.specs.Verdicts.{some_holds}
+use Rattle.mesh_policy.specs.declared.case.Case.{Case}
 use Rattle.mesh_policy.specs.declared.policy.Action.{Action}
 use Rattle.mesh_policy.specs.declared.policy.Action.TheVariants.{Allow, Deny, Audit, Custom}
 use Rattle.mesh_policy.specs.declared.policy.AuthorizationPolicy.{AuthorizationPolicy}
 use Rattle.mesh_policy.specs.declared.policy.Rule.{Rule}
+use Rattle.mesh_policy.specs.declared.service.Protocol.TheVariants.{Tcp}
 use Rattle.mesh_tree.specs.Tree.{tree_of}
 use Rattle.mesh_tree.specs.declared.tree.Node.TheVariants as Node
 use Rattle.mesh_tree.specs.declared.tree.Tree.{Tree}
+use Rattle.envoy_types.specs.Access.{effective}
 use Rattle.envoy_types.specs.Order.{is_below}
 use Rattle.envoy_types.specs.declared.access.Rbac.{Rbac}
 use Rattle.envoy_types.specs.declared.access.RbacAction.{RbacAction}
@@ -71,3 +76,13 @@ tcp_rbac action policies = record {
   shadow = None;
   shadow_prefix = [];
 }
+
+-- ---- what it decides
+
+-- A policy of the filter is effective for a connection exactly where a rule of the policies holds for it, whatever is seen of
+-- its peer.
+abbrev pub DecidesTcp : Action → List AuthorizationPolicy → Type 0
+DecidesTcp action policies =
+    (case : Case) (seen : Seen)
+    → is_some (effective (record { action = rbac_action action; policies = policies_tcp policies }) case seen)
+    ≡ some_holds Tcp case seen policies

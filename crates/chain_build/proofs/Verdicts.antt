@@ -5,13 +5,11 @@ use Rattle.std.proofs.Math.Dec.{eqb-suc-zero}
 use Rattle.std.proofs.lemmas.List.{append-nil, append_assoc}
 use Rattle.std.proofs.lemmas.List.Elements.{All-head, All-tail}
 use Rattle.std.specs.Option.{option_map}
-use Rattle.mesh_policy.specs.AcceptedBundle.{AcceptedItems, same_policy}
-use Rattle.mesh_policy.specs.AcceptedRules.{AcceptedPolicy}
 use Rattle.mesh_policy.specs.Attributes.{Seen}
 use Rattle.mesh_policy.specs.Connection.{authenticated, closed, mesh_names, offers_mesh_name, opaque as unread, passage, with_peer}
 use Rattle.mesh_policy.specs.Verdicts as mesh
 use Rattle.mesh_policy.specs.Verdicts.{some_holds}
-use Rattle.mesh_policy.specs.Workload.{ListedPort, Workload, mode_of, port_at, protocol_of, with_action}
+use Rattle.mesh_policy.specs.Workload.{ListedPort, Workload, mode_of, port_at}
 use Rattle.mesh_policy.specs.declared.case.Case.{Case}
 use Rattle.mesh_policy.specs.declared.case.Tls.{Tls}
 use Rattle.mesh_policy.specs.declared.peer.Mode.{Mode}
@@ -28,21 +26,22 @@ use Rattle.envoy_types.specs.Run.{Names, RunState, Step, goes_on, refuses, run_f
 use Rattle.envoy_types.specs.declared.chains.NetworkFilter.{NetworkFilter}
 use Rattle.envoy_types.specs.declared.chains.Transport.{Transport}
 use Rattle.envoy_types.specs.declared.chains.Transport.TheVariants.{RawBuffer, Tls as Encrypted}
-use Rattle.authz_gen.specs.Policies.{AreTcpPolicies, policies_tcp, rbac_action, tcp_rbac}
+use Rattle.authz_gen.specs.Policies.{policies_tcp, rbac_action, tcp_rbac}
+use Rattle.authz_gen.proofs.Decided.{decides}
 use Rattle.chain_build.specs.Buildable.{IsBuildable}
 use Rattle.chain_build.specs.Chains.{built, filters_for, tcp_chain, tcp_filters}
 use Rattle.chain_build.proofs.Chosen.{chain_for, chosen-chain}
 use Rattle.chain_build.proofs.Modes.{mutual_chain, opaque_chain, taken}
 use Rattle.chain_build.proofs.Ports.{Rising}
 
--- ---- what the filters are known by
+-- ---- what is known of the filters
 
--- one of the policies that a filter is made of is effective exactly where a rule of them holds
+-- For a case: a policy of the filter is effective exactly where a rule holds, whatever is seen.
 abbrev pub Decides : Case → Action → List AuthorizationPolicy → Type 0
 Decides c action policies = (seen : Seen)
     → is_some (effective (record { action = rbac_action action; policies = policies_tcp policies }) c seen) ≡ some_holds Tcp c seen policies
 
--- so it is for each filter of a workload
+-- for each filter of a workload
 pub record FiltersDecide (w : Workload) (c : Case) : Type 0 where
   pub audit : Decides c Audit w.audit
   pub deny : Decides c Deny w.deny
@@ -233,39 +232,11 @@ agree w rising buildable c decide =
     ∙ chain-decides w c buildable.custom decide (mode_of w c.port) (port_at w c.port) c.tls refl
     ∙ mesh-decides w c buildable
 
--- ---- for what selection gives
-
--- The ports rise, and the policies of each action have that action and are accepted, which selection promises.
-pub record IsSelected (w : Workload) : Type 0 where
-  pub rising : Rising w.ports
-  pub actions : (action : Action) → All (λ policy. policy.action ≡ action) (with_action w action)
-  pub allow : AcceptedItems AcceptedPolicy same_policy w.allow
-  pub deny : AcceptedItems AcceptedPolicy same_policy w.deny
-  pub audit : AcceptedItems AcceptedPolicy same_policy w.audit
-
--- the policies of each filter are those that it can be made of
-pub record HasTcpPolicies (w : Workload) : Type 0 where
-  pub audit : AreTcpPolicies Audit w.audit
-  pub deny : AreTcpPolicies Deny w.deny
-  pub allow : AreTcpPolicies Allow w.allow
-
-pub tcp-policies : (w : Workload) → IsSelected w → IsBuildable w → HasTcpPolicies w
-tcp-policies w selected buildable = record {
-  audit = record { accepted = selected.audit; actions = selected.actions Audit; ports = buildable.audit };
-  deny = record { accepted = selected.deny; actions = selected.actions Deny; ports = buildable.deny };
-  allow = record { accepted = selected.allow; actions = selected.actions Allow; ports = buildable.allow };
-}
-
--- each filter decides for a case, of whatever policies it is made
-abbrev pub RulesDecide : Case → Type 0
-RulesDecide c = (action : Action) (policies : List AuthorizationPolicy) → AreTcpPolicies action policies → Decides c action policies
-
-pub selected-agree : (w : Workload) → IsSelected w → IsBuildable w → (c : Case) → RulesDecide c
-    → envoy_verdict (built w) c ≡ mesh.verdict_of w c
-selected-agree w selected buildable c decide =
-    let has = tcp-policies w selected buildable in
-    agree w selected.rising buildable c (record {
-      audit = decide Audit w.audit has.audit;
-      deny = decide Deny w.deny has.deny;
-      allow = decide Allow w.allow has.allow;
+-- They do where the rules ask for ports alone.
+pub built-agrees : (w : Workload) → Rising w.ports → IsBuildable w → (c : Case) → envoy_verdict (built w) c ≡ mesh.verdict_of w c
+built-agrees w rising buildable c =
+    agree w rising buildable c (record {
+      audit = decides Audit w.audit buildable.audit c;
+      deny = decides Deny w.deny buildable.deny c;
+      allow = decides Allow w.allow buildable.allow c;
     })

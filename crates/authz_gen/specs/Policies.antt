@@ -1,6 +1,6 @@
 -- The filter of role-based access control that enforces the policies of one action on TCP connections (Istio task
 -- "Authorization for TCP traffic"; Envoy v3 API reference, `config.rbac.v3.RBAC`).
-use Rattle.std.specs.Prelude.{◌≡◌, ℕ, Bool, All, IsTrue, List, [], ◌∷◌, flat_map, is_some, map, Some, None}
+use Rattle.std.specs.Prelude.{◌≡◌, ℕ, Bool, All, IsTrue, List, [], ◌∷◌, flat_map, map, Some, None}
 use Rattle.std.specs.List.{enumerate_from, list_all}
 use Rattle.mesh_policy.specs.AcceptedBundle.{AcceptedItems, same_policy}
 use Rattle.mesh_policy.specs.AcceptedRules.{AcceptedPolicy}
@@ -17,7 +17,7 @@ use Rattle.mesh_policy.specs.declared.service.Protocol.TheVariants.{Tcp}
 use Rattle.mesh_tree.specs.Tree.{tree_of}
 use Rattle.mesh_tree.specs.declared.tree.Node.TheVariants as Node
 use Rattle.mesh_tree.specs.declared.tree.Tree.{Tree}
-use Rattle.envoy_types.specs.Access.{effective}
+use Rattle.envoy_types.specs.Access.{action_marks, action_passes, rbac_marks, rbac_passes}
 use Rattle.envoy_types.specs.Order.{is_below}
 use Rattle.envoy_types.specs.declared.access.Rbac.{Rbac}
 use Rattle.envoy_types.specs.declared.access.RbacAction.{RbacAction}
@@ -79,10 +79,10 @@ tcp_rbac action policies = record {
 
 -- ---- what it decides
 
--- A policy of the filter is effective for a connection exactly where a rule of the policies holds for it, whatever is seen of
--- its peer.
-abbrev pub DecidesTcp : Action → List AuthorizationPolicy → Type 0
-DecidesTcp action policies =
-    (case : Case) (seen : Seen)
-    → is_some (effective (record { action = rbac_action action; policies = policies_tcp policies }) case seen)
-    ≡ some_holds Tcp case seen policies
+-- The filter lets a TCP connection pass, and marks it, as its action does where some rule of the policies holds, whatever is seen
+-- of the peer.
+pub record DecidesTcp (filter : Rbac) (action : Action) (policies : List AuthorizationPolicy) : Type 0 where
+  pub passes : (case : Case) (seen : Seen)
+      → rbac_passes filter.rules case seen ≡ action_passes (rbac_action action) (some_holds Tcp case seen policies)
+  pub marks : (case : Case) (seen : Seen)
+      → rbac_marks filter.rules case seen ≡ action_marks (rbac_action action) (some_holds Tcp case seen policies)

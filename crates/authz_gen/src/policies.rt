@@ -1,11 +1,6 @@
 // The filter of role-based access control that enforces the policies of one action on TCP connections.
-ghost use Rattle.std.specs.Prelude.{◌≡◌, ◌++◌, Bool, false, map, flat_map, is_some, IfOk, IfSome, OnOk, IsTrue};
-ghost use Rattle.std.specs.List.{enumerate_from};
-ghost use Rattle.mesh_policy.specs.Attributes.{Seen};
+ghost use Rattle.std.specs.Prelude.{◌≡◌, ◌++◌, flat_map, IfOk, OnOk};
 ghost use Rattle.mesh_policy.specs.Explanation as explanation;
-ghost use Rattle.mesh_policy.specs.Verdicts.{some_holds};
-ghost use Rattle.mesh_policy.specs.declared.case.Case.{Case};
-ghost use Rattle.mesh_policy.specs.declared.service.Protocol.TheVariants.{Tcp};
 ghost use Rattle.authz_gen.specs.Policies as meaning;
 ghost use Rattle.authz_gen.specs.Policies.{AreTcpPolicies, DecidesTcp};
 
@@ -17,8 +12,8 @@ use mesh_text::{List, Memory, Text};
 use mesh_tree::Tree;
 use std::alloc::Global;
 
-/// The filter of the policies of an action on a TCP port. It holds for a connection exactly where one of the rules does,
-/// and has one policy a rule, under the rule's name.
+/// The filter of the policies of an action on a TCP port. It has one policy a rule, under the rule's name, which holds
+/// exactly where the rule does.
 #[tactic(auto, unfolding(crate::specs::Policies::tcp_rbac))]
 pub fn tcp_rbac(
     alloc: Global,
@@ -27,7 +22,7 @@ pub fn tcp_rbac(
 ) -> Result<Rbac, Memory>
     requires { AreTcpPolicies action policies.now }
     ensures shape { IfOk result (λ filter. filter ≡ meaning.tcp_rbac action policies.now) }
-    ensures meaning { DecidesTcp action policies.now }
+    ensures meaning { IfOk result (λ filter. DecidesTcp filter action policies.now) }
 {
     let policies = policies_tcp(alloc, policies)?;
     let rules = RbacRules {

@@ -6,7 +6,7 @@ use Rattle.authz_gen.proofs.InOrder.{onto}
 use Rattle.authz_gen.proofs.in_order.in_order.Given as goal
 
 abbrev pub invariant-loop-policy : goal.invariant-loop-policy
-invariant-loop-policy l = onto name_before l.rest.items l.found.items ≡ lists.in_order name_before l.policies
+invariant-loop-policy l = onto name_before l.rest.items l.found.items ≡ lists.in_order name_before l.fn.policies
 
 abbrev pub decreases-loop-policy : goal.decreases-loop-policy
 decreases-loop-policy l = length l.rest.items

@@ -20,13 +20,13 @@ use Rattle.mesh_policy.specs.declared.policy.AuthorizationPolicy.{AuthorizationP
 use Rattle.mesh_policy.specs.declared.service.Protocol.TheVariants.{Tcp}
 use Rattle.mesh_policy.specs.declared.verdict.Outcome.TheVariants.{Admitted, Closed}
 use Rattle.mesh_policy.specs.declared.verdict.Verdict.{Verdict}
-use Rattle.envoy_types.specs.Access.{effective}
+use Rattle.envoy_types.specs.Access.{action_marks, action_passes, rbac_marks, rbac_passes}
 use Rattle.envoy_types.specs.ListenerVerdict.{chain_verdict, envoy_verdict, shows_peer, start, unmarked, verdict_by, verdict_of}
 use Rattle.envoy_types.specs.Run.{Names, RunState, Step, goes_on, refuses, run_filters, run_network, then_run}
 use Rattle.envoy_types.specs.declared.chains.NetworkFilter.{NetworkFilter}
 use Rattle.envoy_types.specs.declared.chains.Transport.{Transport}
 use Rattle.envoy_types.specs.declared.chains.Transport.TheVariants.{RawBuffer, Tls as Encrypted}
-use Rattle.authz_gen.specs.Policies.{policies_tcp, rbac_action, tcp_rbac}
+use Rattle.authz_gen.specs.Policies.{DecidesTcp, rbac_action, tcp_rbac}
 use Rattle.authz_gen.proofs.Decided.{decides}
 use Rattle.chain_build.specs.Buildable.{IsBuildable}
 use Rattle.chain_build.specs.Chains.{built, filters_for, tcp_chain, tcp_filters}
@@ -36,10 +36,12 @@ use Rattle.chain_build.proofs.Ports.{Rising}
 
 -- ---- what is known of the filters
 
--- For a case: a policy of the filter is effective exactly where a rule holds, whatever is seen.
-abbrev pub Decides : Case → Action → List AuthorizationPolicy → Type 0
-Decides c action policies = (seen : Seen)
-    → is_some (effective (record { action = rbac_action action; policies = policies_tcp policies }) c seen) ≡ some_holds Tcp c seen policies
+-- For a case: the filter of the policies lets it pass, and marks it, as its action does where a rule holds.
+pub record Decides (c : Case) (action : Action) (policies : List AuthorizationPolicy) : Type 0 where
+  pub passes : (seen : Seen)
+      → rbac_passes (tcp_rbac action policies).rules c seen ≡ action_passes (rbac_action action) (some_holds Tcp c seen policies)
+  pub marks : (seen : Seen)
+      → rbac_marks (tcp_rbac action policies).rules c seen ≡ action_marks (rbac_action action) (some_holds Tcp c seen policies)
 
 -- for each filter of a workload
 pub record FiltersDecide (w : Workload) (c : Case) : Type 0 where
@@ -68,7 +70,7 @@ audit-filter : (c : Case) (policies : List AuthorizationPolicy) → Decides c Au
 unfolding tcp_rbac
 audit-filter c [] decides rest seen audited names = ap (λ b. run c rest (before seen b names)) (sym (or-false audited))
 audit-filter c (policy ∷ policies) decides rest seen audited names =
-    rw (eqb-suc-zero (length policies)) (ap (λ b. run c rest (before seen (audited || b) names)) (decides seen))
+    rw (eqb-suc-zero (length policies)) (ap (λ b. run c rest (before seen (audited || b) names)) (decides.marks seen))
 
 -- a refusal, or what stands behind
 abbrev unless : Bool → RunState → Rest → Step
@@ -82,7 +84,7 @@ deny-filter : (c : Case) (policies : List AuthorizationPolicy) → Decides c Den
 unfolding tcp_rbac
 deny-filter c [] decides rest seen audited names = refl
 deny-filter c (policy ∷ policies) decides rest seen audited names =
-    rw (eqb-suc-zero (length policies), or-false audited, decides seen) (at (some_holds Tcp c seen (policy ∷ policies))) where
+    rw (eqb-suc-zero (length policies), or-false audited, decides.passes seen) (at (some_holds Tcp c seen (policy ∷ policies))) where
   at : (b : Bool) → then_run (if not b then goes_on else refuses) (before seen audited names) (run c rest)
       ≡ unless b (before seen audited names) (run c rest)
   at true = refl
@@ -96,7 +98,7 @@ allow-filter : (c : Case) (policies : List AuthorizationPolicy) → Decides c Al
 unfolding tcp_rbac
 allow-filter c [] decides rest seen audited names = refl
 allow-filter c (policy ∷ policies) decides rest seen audited names =
-    rw (eqb-suc-zero (length policies), or-false audited, decides seen) (at (some_holds Tcp c seen (policy ∷ policies))) where
+    rw (eqb-suc-zero (length policies), or-false audited, decides.passes seen) (at (some_holds Tcp c seen (policy ∷ policies))) where
   at : (b : Bool) → then_run (if b then goes_on else refuses) (before seen audited names) (run c rest)
       ≡ unless (not b) (before seen audited names) (run c rest)
   at true = refl
@@ -233,10 +235,15 @@ agree w rising buildable c decide =
     ∙ mesh-decides w c buildable
 
 -- They do where the rules ask for ports alone.
+filters-of : (w : Workload) → IsBuildable w → (c : Case) → FiltersDecide w c
+filters-of w buildable c = record {
+  audit = of_case Audit w.audit (decides Audit w.audit buildable.audit);
+  deny = of_case Deny w.deny (decides Deny w.deny buildable.deny);
+  allow = of_case Allow w.allow (decides Allow w.allow buildable.allow);
+} where
+  of_case : (action : Action) (policies : List AuthorizationPolicy) → DecidesTcp (tcp_rbac action policies) action policies
+      → Decides c action policies
+  of_case action policies h = record { passes = h.passes c; marks = h.marks c }
+
 pub built-agrees : (w : Workload) → Rising w.ports → IsBuildable w → (c : Case) → envoy_verdict (built w) c ≡ mesh.verdict_of w c
-built-agrees w rising buildable c =
-    agree w rising buildable c (record {
-      audit = decides Audit w.audit buildable.audit c;
-      deny = decides Deny w.deny buildable.deny c;
-      allow = decides Allow w.allow buildable.allow c;
-    })
+built-agrees w rising buildable c = agree w rising buildable c (filters-of w buildable c)

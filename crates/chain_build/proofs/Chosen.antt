@@ -1,12 +1,11 @@
 -- Which chain a connection goes to: that of the mode of its port, or none.
-use Rattle.std.proofs.Common.{arith, ◌≡◌, ℕ, suc, ◌+◌, ◌==◌, Bool, true, false, cond, ◌||◌, All, List, [], ◌∷◌, filter, find, map, Option, Some, None, if◌then◌else◌, refl, sym, ◌∙◌, ap}
+use Rattle.std.proofs.Common.{arith, ◌≡◌, ℕ, suc, ◌+◌, Bool, true, false, cond, ◌||◌, All, List, [], ◌∷◌, filter, map, Option, Some, if◌then◌else◌, refl, ◌∙◌, ap}
 use Rattle.std.proofs.lemmas.List.Elements.{All-cons, All-filter, All-head}
 use Rattle.std.specs.List.{list_any, slice_get}
 use Rattle.std.specs.Option.{option_and_then, option_map}
 use Rattle.mesh_policy.specs.Workload.{Workload, mode_of, port_at}
 use Rattle.mesh_policy.specs.declared.case.Case.{Case}
-use Rattle.mesh_policy.specs.declared.case.Tls.{Tls}
-use Rattle.envoy_types.specs.Chosen.{Placed, agreed_name, chosen, for_names, for_port, for_transport, is_any_name, lists_name, names_agreed, narrowed, offered, placed_from, prune}
+use Rattle.envoy_types.specs.Chosen.{Placed, agreed_name, chosen, for_port, for_transport, is_any_name, lists_name, names_agreed, narrowed, offered, placed_from, prune}
 use Rattle.envoy_types.specs.declared.chains.ChainMatch.{ChainMatch}
 use Rattle.envoy_types.specs.declared.chains.FilterChain.{FilterChain}
 use Rattle.envoy_types.specs.declared.chains.Listener.{Listener}
@@ -45,10 +44,10 @@ narrow-chains names is_open ps =
     at (list_any (λ (p : Placed). names p.chain.matching) ps)
     ∙ ap (λ b. if b then filter (λ chain. names chain.matching) (chains_of ps) else filter (λ chain. is_open chain.matching) (chains_of ps))
     (any-chains names ps) where
-  at : (b : Bool) → chains_of (if b then filter (λ p. names p.chain.matching) ps else filter (λ p. is_open p.chain.matching) ps)
-      ≡ (if b then filter (λ chain. names chain.matching) (chains_of ps) else filter (λ chain. is_open chain.matching) (chains_of ps))
-  at true = filter-chains names ps
-  at false = filter-chains is_open ps
+      at : (b : Bool) → chains_of (if b then filter (λ p. names p.chain.matching) ps else filter (λ p. is_open p.chain.matching) ps)
+          ≡ (if b then filter (λ chain. names chain.matching) (chains_of ps) else filter (λ chain. is_open chain.matching) (chains_of ps))
+      at true = filter-chains names ps
+      at false = filter-chains is_open ps
 
 agreed-chains : (names : List (List ℕ)) (ps : List Placed) → agreed_name names ps ≡ agreed names (chains_of ps)
 agreed-chains [] ps = refl
@@ -59,9 +58,9 @@ agreed-chains (name ∷ names) ps =
 pruned-chains : (ps : List Placed) (c : Case) → chains_of (prune ps c) ≡ left c.tls (by_port c.port (chains_of ps))
 pruned-chains ps c =
     narrow-chains (names_agreed (agreed_name (offered c.tls) (for_transport c.tls (for_port c.port ps)))) is_any_name
-        (for_transport c.tls (for_port c.port ps))
+    (for_transport c.tls (for_port c.port ps))
     ∙ ap (λ o. narrow (names_agreed o) is_any_name (chains_of (for_transport c.tls (for_port c.port ps))))
-        (agreed-chains (offered c.tls) (for_transport c.tls (for_port c.port ps)))
+    (agreed-chains (offered c.tls) (for_transport c.tls (for_port c.port ps)))
     ∙ ap (by_names (offered c.tls)) (narrow-chains _ _ (for_port c.port ps) ∙ ap (by_transport c.tls) (narrow-chains _ _ ps))
 
 -- ---- a chain stands at its position
@@ -96,11 +95,12 @@ first-left chains c =
     first-chain (slice_get chains) (prune (placed_from 0 chains) c) (kept _ _ _ (kept _ _ _ (kept _ _ _ stand)))
     ∙ ap (λ cs. slice_get cs 0) (pruned-chains (placed_from 0 chains) c)
     ∙ ap (λ cs. slice_get (left c.tls (by_port c.port cs)) 0) (placed-chains 0 chains) where
-  kept : (names is_open : ChainMatch → Bool) (ps : List Placed) → All (Stands (slice_get chains)) ps
-      → All (Stands (slice_get chains)) (narrowed names is_open ps)
-  kept = narrowed-stand (slice_get chains)
-  stand : All (Stands (slice_get chains)) (placed_from 0 chains)
-  stand = placed-stand (slice_get chains) 0 chains (λ i. ap (slice_get chains) (omega arith))
+      kept : (names is_open : ChainMatch → Bool) (ps : List Placed) → All (Stands (slice_get chains)) ps
+          → All (Stands (slice_get chains)) (narrowed names is_open ps)
+      kept = narrowed-stand (slice_get chains)
+
+      stand : All (Stands (slice_get chains)) (placed_from 0 chains)
+      stand = placed-stand (slice_get chains) 0 chains (λ i. ap (slice_get chains) (omega arith))
 
 -- ---- the chain
 

@@ -1,5 +1,5 @@
 -- Which of the chains of a mode takes a connection.
-use Rattle.std.proofs.Common.{◌≡◌, ℕ, ◌==◌, Bool, true, false, cond, ◌||◌, List, [], ◌∷◌, filter, find, length, Option, Some, None, codes, if◌then◌else◌, refl}
+use Rattle.std.proofs.Common.{◌≡◌, ℕ, Bool, true, false, List, [], ◌∷◌, filter, find, Option, Some, None, codes, if◌then◌else◌, refl}
 use Rattle.std.specs.List.{list_any, slice_get}
 use Rattle.mesh_policy.specs.Connection.{is_mesh_name, mesh_names, offers_mesh_name}
 use Rattle.mesh_policy.specs.Workload.{ListedPort}

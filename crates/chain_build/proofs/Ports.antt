@@ -1,5 +1,5 @@
 -- The chains of a workload that are left for a port: those of the port by its mode, or those of all other ports.
-use Rattle.std.proofs.Common.{arith, ◌≡◌, ℕ, suc, ◌==◌, ◌<◌, Bool, true, false, cond, ◌||◌, All, List, [], ◌∷◌, ◌++◌, filter, find, flat_map, Option, Some, None, is_some, if◌then◌else◌, refl, sym, ◌∙◌, ap}
+use Rattle.std.proofs.Common.{arith, ◌≡◌, ℕ, suc, ◌==◌, ◌<◌, Bool, true, false, cond, ◌||◌, List, [], ◌∷◌, ◌++◌, filter, find, flat_map, Option, Some, None, is_some, refl, sym, ◌∙◌, ap}
 use Rattle.std.proofs.lemmas.Bool.{eqb-true}
 use Rattle.std.proofs.lemmas.List.{append-nil}
 use Rattle.std.proofs.lemmas.List.Elements.{filter-append}
@@ -144,13 +144,14 @@ found n filters [] port rising h = cc
 found n filters (first ∷ ports) port rising h =
     filter-append (is_for n) (chains_of_port filters first) (flat_map (chains_of_port filters) ports)
     ∙ at (first.number == n) refl h (found n filters ports port (rising-tail first ports rising)) where
-  at : (b : Bool) → (first.number == n) ≡ b → cond b (Some first) (find (has_number n) ports) ≡ Some port
-      → (find (has_number n) ports ≡ Some port → filter (is_for n) (flat_map (chains_of_port filters) ports) ≡ chains_of_port filters port)
-      → filter (is_for n) (chains_of_port filters first) ++ filter (is_for n) (flat_map (chains_of_port filters) ports)
-      ≡ chains_of_port filters port
-  at true e h inner = rw (kept n first.mode first filters e, absent n filters ports (later-differ first ports n rising e))
-      (append-nil (chains_of_port filters first) ∙ ap (chains_of_port filters) (some-same first port h))
-  at false e h inner = rw (dropped n first.mode first filters e) (inner h)
+      at : (b : Bool) → (first.number == n) ≡ b → cond b (Some first) (find (has_number n) ports) ≡ Some port
+          → (find (has_number n) ports ≡ Some port
+          → filter (is_for n) (flat_map (chains_of_port filters) ports) ≡ chains_of_port filters port)
+          → filter (is_for n) (chains_of_port filters first) ++ filter (is_for n) (flat_map (chains_of_port filters) ports)
+          ≡ chains_of_port filters port
+      at true e h inner = rw (kept n first.mode first filters e, absent n filters ports (later-differ first ports n rising e))
+          (append-nil (chains_of_port filters first) ∙ ap (chains_of_port filters) (some-same first port h))
+      at false e h inner = rw (dropped n first.mode first filters e) (inner h)
 
 find-any : (n : ℕ) (ports : List ListedPort) → is_some (find (has_number n) ports) ≡ list_any (has_number n) ports
 find-any n [] = refl

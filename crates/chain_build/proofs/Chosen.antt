@@ -1,11 +1,13 @@
 -- Which chain a connection goes to: that of the mode of its port, or none.
-use Rattle.std.proofs.Common.{arith, ◌≡◌, ℕ, suc, ◌+◌, Bool, true, false, cond, ◌||◌, All, List, [], ◌∷◌, filter, map, Option, Some, if◌then◌else◌, refl, ◌∙◌, ap}
+use Rattle.std.proofs.Common.{arith, ◌≡◌, ℕ, suc, ◌+◌, Bool, true, false, cond, ◌||◌, All, List, [], ◌∷◌, filter, map, Option}
+use Rattle.std.proofs.Common.{Some, if◌then◌else◌, refl, ◌∙◌, ap}
 use Rattle.std.proofs.lemmas.List.Elements.{All-cons, All-filter, All-head}
 use Rattle.std.specs.List.{list_any, slice_get}
 use Rattle.std.specs.Option.{option_and_then, option_map}
 use Rattle.mesh_policy.specs.Workload.{Workload, mode_of, port_at}
 use Rattle.mesh_policy.specs.declared.case.Case.{Case}
-use Rattle.envoy_types.specs.Chosen.{Placed, agreed_name, chosen, for_port, for_transport, is_any_name, lists_name, names_agreed, narrowed, offered, placed_from, prune}
+use Rattle.envoy_types.specs.Chosen.{Placed, agreed_name, chosen, for_port, for_transport, is_any_name, lists_name, names_agreed}
+use Rattle.envoy_types.specs.Chosen.{narrowed, offered, placed_from, prune}
 use Rattle.envoy_types.specs.declared.chains.ChainMatch.{ChainMatch}
 use Rattle.envoy_types.specs.declared.chains.FilterChain.{FilterChain}
 use Rattle.envoy_types.specs.declared.chains.Listener.{Listener}

@@ -1,38 +1,26 @@
 -- What the filters of a TCP chain decide, one after another.
-use Rattle.std.proofs.Common.{◌≡◌, ℕ, ◌==◌, Bool, true, false, cond, not, ◌&&◌, ◌||◌, All, List, [], ◌∷◌, ◌++◌, codes, find, length, Option, Some, None, is_some, unwrap_or, if◌then◌else◌, refl, sym, ◌∙◌, ap}
+use Rattle.std.proofs.Common.{◌≡◌, ◌==◌, Bool, true, false, not, ◌&&◌, ◌||◌, List, [], ◌∷◌, ◌++◌, length, if◌then◌else◌, refl, sym, ◌∙◌, ap}
 use Rattle.std.proofs.Math.Bool.{or-false}
 use Rattle.std.proofs.Math.Dec.{eqb-suc-zero}
 use Rattle.std.proofs.lemmas.List.{append-nil, append_assoc}
-use Rattle.std.proofs.lemmas.List.Elements.{All-head, All-tail}
-use Rattle.std.specs.Option.{option_map}
 use Rattle.mesh_policy.specs.Attributes.{Seen}
-use Rattle.mesh_policy.specs.Connection.{authenticated, closed, mesh_names, offers_mesh_name, opaque as unread, passage, with_peer}
 use Rattle.mesh_policy.specs.Verdicts as mesh
 use Rattle.mesh_policy.specs.Verdicts.{some_holds}
-use Rattle.mesh_policy.specs.Workload.{ListedPort, Workload, mode_of, port_at}
+use Rattle.mesh_policy.specs.Workload.{Workload}
 use Rattle.mesh_policy.specs.declared.case.Case.{Case}
-use Rattle.mesh_policy.specs.declared.case.Tls.{Tls}
-use Rattle.mesh_policy.specs.declared.peer.Mode.{Mode}
-use Rattle.mesh_policy.specs.declared.peer.Mode.TheVariants.{Disable, Permissive, Strict}
 use Rattle.mesh_policy.specs.declared.policy.Action.{Action}
 use Rattle.mesh_policy.specs.declared.policy.Action.TheVariants.{Allow, Deny, Audit}
 use Rattle.mesh_policy.specs.declared.policy.AuthorizationPolicy.{AuthorizationPolicy}
 use Rattle.mesh_policy.specs.declared.service.Protocol.TheVariants.{Tcp}
 use Rattle.mesh_policy.specs.declared.verdict.Outcome.TheVariants.{Admitted, Closed}
-use Rattle.mesh_policy.specs.declared.verdict.Verdict.{Verdict}
 use Rattle.envoy_types.specs.Access.{action_marks, action_passes, rbac_marks, rbac_passes}
-use Rattle.envoy_types.specs.ListenerVerdict.{chain_verdict, envoy_verdict, shows_peer, start, unmarked, verdict_by, verdict_of}
+use Rattle.envoy_types.specs.ListenerVerdict.{start, verdict_of}
 use Rattle.envoy_types.specs.Run.{Names, RunState, Step, goes_on, refuses, run_filters, run_network, then_run}
 use Rattle.envoy_types.specs.declared.chains.NetworkFilter.{NetworkFilter}
-use Rattle.envoy_types.specs.declared.chains.Transport.{Transport}
-use Rattle.envoy_types.specs.declared.chains.Transport.TheVariants.{RawBuffer, Tls as Encrypted}
 use Rattle.authz_gen.specs.Policies.{DecidesTcp, rbac_action, tcp_rbac}
 use Rattle.authz_gen.proofs.Decided.{decides}
 use Rattle.chain_build.specs.Buildable.{IsBuildable}
-use Rattle.chain_build.specs.Chains.{built, filters_for, tcp_chain, tcp_filters}
-use Rattle.chain_build.proofs.Chosen.{chosen-chain}
-use Rattle.chain_build.proofs.Modes.{mutual_chain, opaque_chain, taken}
-use Rattle.chain_build.proofs.Ports.{Rising}
+use Rattle.chain_build.specs.Chains.{filters_for, tcp_filters}
 
 -- ---- what is known of the filters
 

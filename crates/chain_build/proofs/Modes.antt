@@ -6,7 +6,8 @@ use Rattle.mesh_policy.specs.Workload.{ListedPort}
 use Rattle.mesh_policy.specs.declared.case.Tls.{Tls}
 use Rattle.mesh_policy.specs.declared.peer.Mode.{Mode}
 use Rattle.mesh_policy.specs.declared.peer.Mode.TheVariants.{Disable, Permissive, Strict}
-use Rattle.envoy_types.specs.Chosen.{is_any_name, is_any_port, is_any_transport, lists_name, names_agreed, names_port, names_transport, offered, transport_of}
+use Rattle.envoy_types.specs.Chosen.{is_any_name, is_any_port, is_any_transport, lists_name, names_agreed, names_port}
+use Rattle.envoy_types.specs.Chosen.{names_transport, offered, transport_of}
 use Rattle.envoy_types.specs.declared.chains.ChainMatch.{ChainMatch}
 use Rattle.envoy_types.specs.declared.chains.FilterChain.{FilterChain}
 use Rattle.envoy_types.specs.declared.chains.NetworkFilter.{NetworkFilter}

@@ -1,0 +1,2 @@
+//! The inbound listener of a workload: its filter chains, which give each connection the verdict of the policies.
+#![tactic(auto)]

@@ -1,5 +1,6 @@
 -- What a form of fields finds in an object that was written field by field: each field at its name, and no other.
-use Rattle.std.proofs.Common.{◌≡◌, ℕ, Bool, true, false, true≢false, List, [], ◌∷◌, Option, Some, None, option_map, refl, sym, subst, ap, ◌∙◌, not, if◌then◌else◌}
+use Rattle.std.proofs.Common.{◌≡◌, ℕ, Bool, true, false, true≢false, List, [], ◌∷◌, Option, Some, None, option_map, refl, sym}
+use Rattle.std.proofs.Common.{subst, ◌∙◌, not, if◌then◌else◌}
 use Rattle.std.proofs.lemmas.Bool.{and_parts, or_parts}
 use Rattle.std.proofs.lemmas.Slice.Eq.{bytes_eq-Decides}
 use Rattle.std.specs.List.{list_all, list_any}
@@ -10,10 +11,10 @@ use Rattle.std.specs.declared.cmp.Ordering.{Ordering}
 use Rattle.std.specs.declared.cmp.Ordering.TheVariants.{Less, Equal, Greater}
 use Rattle.std.specs.Str.{bytes_eq}
 use Rattle.serde_json.proofs.Views.{get_member-put, get_member-put_other}
-use Rattle.serde_json.specs.Data.{Data, object, Members, no_members, member, put}
+use Rattle.serde_json.specs.Data.{Data, Members, no_members, member, put}
 use Rattle.serde_json.specs.Find.{get, get_member}
 use Rattle.mesh_doc.proofs.NoFault.{earlier, later}
-use Rattle.mesh_doc.specs.Faults.{Check, Faults, first, or_else, ◌⨾◌, ◌▸◌, demands, unless}
+use Rattle.mesh_doc.specs.Faults.{Check, first, or_else, ◌⨾◌, ◌▸◌, demands, unless}
 use Rattle.mesh_doc.specs.Fields.{strict, required_written, optional_written, required_written_in, optional_written_in}
 use Rattle.mesh_doc.specs.Kinds.{object_faults}
 use Rattle.mesh_doc.specs.Known.{is_known, unknown_in, unknown_faults}

@@ -1,16 +1,16 @@
 -- What is written of a part is read back: single values, lists, alternatives and configurations.
-use Rattle.std.proofs.Common.{◌≡◌, ℕ, ◌+◌, ◌==◌, Bool, true, false, nat_le, List, [], ◌∷◌, length, map, Option, Some, None, is_some, option_map, unwrap_or, refl, sym, ap, ◌∙◌, suc, ◌&&◌, if◌then◌else◌, arith}
+use Rattle.std.proofs.Common.{◌≡◌, ℕ, ◌+◌, ◌==◌, Bool, true, false, nat_le, List, [], ◌∷◌, length, map, Option, Some, None}
+use Rattle.std.proofs.Common.{option_map, refl, ap, ◌∙◌, suc, if◌then◌else◌, arith}
 use Rattle.std.proofs.lemmas.Bool.{and_parts, ne_eqb}
 use Rattle.std.proofs.lemmas.Slice.Eq.{bytes_eq-Decides}
 use Rattle.std.specs.List.{list_all}
 use Rattle.std.specs.Str.{bytes_eq}
-use Rattle.serde_json.specs.Data.{Data, null, array, boolean, string, Items, no_items, item}
+use Rattle.serde_json.specs.Data.{Data, array, boolean, string}
 use Rattle.serde_json.specs.Events.{items_len}
 use Rattle.serde_json.specs.Find.{get}
 use Rattle.serde_json.specs.View.{items_of}
-use Rattle.mesh_doc.specs.Faults.{Check, Faults, first, none, ◌⨾◌, ◌▸◌, demands, unless}
+use Rattle.mesh_doc.specs.Faults.{Check, first}
 use Rattle.mesh_doc.specs.Fields.{optional_written, optional_written_in}
-use Rattle.mesh_doc.specs.Kinds as kinds
 use Rattle.mesh_doc.specs.Kinds.{length_in, list_faults, number_faults, number_in, text_faults, text_in, truth_faults, truth_in}
 use Rattle.mesh_doc.specs.Known.{is_known}
 use Rattle.mesh_doc.specs.Lists.{each_in, found_list, list_in, list_of, listed_written, listed_written_in}
@@ -19,11 +19,15 @@ use Rattle.mesh_doc.specs.Tested.{tested}
 use Rattle.mesh_doc.specs.Turns.{each_in_turn, list_in_turn}
 use Rattle.mesh_doc.specs.declared.reason.Reason.{Reason}
 use Rattle.mesh_doc.specs.declared.reason.Reason.TheVariants as reason
-use Rattle.envoy_types.proofs.FieldsBack.{Passes, behind, both, demanded, get-object, none-in-both, optional-passes, absent-passes, required-back, required-passes, strict-object}
-use Rattle.envoy_types.specs.SmallForms.{any_list, any_port_faults, config_in, count_written, fixed_faults, is_within, list_that, most_entries}
-use Rattle.envoy_types.specs.SmallForms.{named_faults, number_within_faults, one_of, plain_config_faults, port_faults, short_list_faults, sole_in}
-use Rattle.envoy_types.specs.SmallForms.{sole_list, some_list, true_faults, type_faults}
-use Rattle.envoy_types.specs.WrittenFields.{Field, are_different, config_written, field, field_names, list_field, list_written, named_written, number_written, object_of}
+use Rattle.envoy_types.proofs.FieldsBack.{Passes, behind, both, demanded, get-object, none-in-both, optional-passes}
+use Rattle.envoy_types.proofs.FieldsBack.{absent-passes, required-back, required-passes, strict-object}
+use Rattle.envoy_types.specs.SmallForms.{config_in, count_written, fixed_faults, is_within, list_that}
+use Rattle.envoy_types.specs.SmallForms.{most_entries}
+use Rattle.envoy_types.specs.SmallForms.{named_faults, number_within_faults, one_of, plain_config_faults}
+use Rattle.envoy_types.specs.SmallForms.{short_list_faults, sole_in}
+use Rattle.envoy_types.specs.SmallForms.{sole_list, true_faults, type_faults}
+use Rattle.envoy_types.specs.WrittenFields.{Field, are_different, config_written, field, field_names, list_field, list_written}
+use Rattle.envoy_types.specs.WrittenFields.{named_written, number_written, object_of}
 use Rattle.envoy_types.specs.declared.keys.TheConstants.{NAME, TYPED_CONFIG, TYPE}
 
 -- the value has no fault, wherever it stands, and means this
@@ -99,7 +103,7 @@ list-passes most ds h = record { clean = λ at. rw (items-length ds, h) refl }
 
 module _ {A : Type 0} (f : Check) (value : Data → A) (written : A → Data) (P : A → Bool)
     (each : (x : A) → P x ≡ true → Back f value (written x) x) where
-  entries-pass : (k : ℕ) (xs : List A) (at : Steps) → list_all P xs ≡ true
+  pub entries-pass : (k : ℕ) (xs : List A) (at : Steps) → list_all P xs ≡ true
       → first (each_in_turn {S = Unit {0}} (λ _. f) (λ seen _. seen) tt k (items_of (map written xs)) at) ≡ None
   entries-pass k [] at h = refl
   entries-pass k (x ∷ xs) at h =

@@ -14,8 +14,7 @@ use Rattle.mesh_doc.specs.Tested.{tested}
 use Rattle.mesh_doc.specs.declared.reason.Reason.TheVariants as reason
 use Rattle.envoy_types.specs.Chosen.{same_transport}
 use Rattle.envoy_types.specs.FilterForms.{body_faults, body_in, body_is_printable, body_written}
-use Rattle.envoy_types.specs.ProviderForms.{is_short_list}
-use Rattle.envoy_types.specs.SmallForms.{is_within, is_written, most_entries, port_faults}
+use Rattle.envoy_types.specs.SmallForms.{is_short_list, is_within, is_written, most_entries, port_faults}
 use Rattle.envoy_types.specs.SocketForms.{socket_faults, socket_written}
 use Rattle.envoy_types.specs.WrittenFields.{Field, field, list_field, number_written, object_of, optional_field}
 use Rattle.envoy_types.specs.declared.chains.ChainMatch.{ChainMatch}
@@ -29,17 +28,17 @@ use Rattle.envoy_types.specs.declared.keys.TheConstants.{TRANSPORT_PROTOCOL, TRA
 -- ---- the connections that a chain is for
 
 -- `transport_protocol`, by its words
-abbrev pub transport_of : List ℕ → Option Transport
-transport_of word =
+abbrev pub transport_named : List ℕ → Option Transport
+transport_named word =
     if bytes_eq word TLS.now then Some transport.Tls
     else if bytes_eq word RAW_BUFFER.now then Some transport.RawBuffer
     else None
 
 abbrev pub transport_faults : Check
-transport_faults = tested (λ word. is_some (transport_of word)) reason.BadForm
+transport_faults = tested (λ word. is_some (transport_named word)) reason.BadForm
 
 unfoldable pub transport_in : Data → Transport
-transport_in d = unwrap_or (transport_of (text_in d)) transport.Tls
+transport_in d = unwrap_or (transport_named (text_in d)) transport.Tls
 
 abbrev pub transport_word : Transport → List ℕ
 transport_word transport.RawBuffer = RAW_BUFFER.now

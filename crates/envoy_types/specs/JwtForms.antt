@@ -16,9 +16,9 @@ use Rattle.mesh_doc.specs.Tested.{tested}
 use Rattle.mesh_doc.specs.declared.reason.Reason.TheVariants as reason
 use Rattle.envoy_types.specs.Jwt.{Authentication, Provider}
 use Rattle.envoy_types.specs.Order.{names_rise}
-use Rattle.envoy_types.specs.ProviderForms.{is_short_list, provider_faults, provider_in, provider_is_printable, provider_written}
+use Rattle.envoy_types.specs.ProviderForms.{provider_faults, provider_in, provider_is_printable, provider_written}
 use Rattle.envoy_types.specs.SmallForms.{any_list, config_in, given, is_within, is_written, list_in_turn_that, most_entries}
-use Rattle.envoy_types.specs.SmallForms.{named_faults, one_of, type_faults}
+use Rattle.envoy_types.specs.SmallForms.{is_short_list, named_faults, one_of, type_faults}
 use Rattle.envoy_types.specs.WrittenFields.{config_written, field, list_written, map_written, named_written, object_of, optional_field}
 use Rattle.envoy_types.specs.WrittenFields.{sole_field}
 use Rattle.envoy_types.specs.declared.jwt.JwtCheck.{JwtCheck}

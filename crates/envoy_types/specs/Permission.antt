@@ -11,7 +11,8 @@ use Rattle.envoy_types.specs.Headers.{header_holds}
 use Rattle.envoy_types.specs.State.{holds_of}
 use Rattle.envoy_types.specs.Strings.{string_holds}
 use Rattle.envoy_types.specs.declared.permission.PermissionLeaf.{PermissionLeaf}
-use Rattle.envoy_types.specs.declared.permission.PermissionLeaf.TheVariants.{Header, UrlPath, UriTemplate, DestinationIp, DestinationPort, ServerName}
+use Rattle.envoy_types.specs.declared.permission.PermissionLeaf.TheVariants.{Header, UrlPath, UriTemplate, DestinationIp}
+use Rattle.envoy_types.specs.declared.permission.PermissionLeaf.TheVariants.{DestinationPort, ServerName}
 
 -- the server name that the client asked for, and the empty text where it asked for none
 abbrev pub server_name : Option Tls → List ℕ

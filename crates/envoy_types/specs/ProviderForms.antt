@@ -1,5 +1,5 @@
 -- The JSON of token providers (Envoy v3 API reference, `extensions.filters.http.jwt_authn.v3.JwtProvider`).
-use Rattle.std.specs.Prelude.{ℕ, Bool, true, false, ◌&&◌, nat_le, List, [], ◌∷◌, ◌++◌, length, Option, Some, None}
+use Rattle.std.specs.Prelude.{ℕ, Bool, true, false, ◌&&◌, List, [], ◌∷◌, ◌++◌, Option, Some, None}
 use Rattle.std.specs.Prelude.{unwrap_or}
 use Rattle.std.specs.List.{filter_map, list_all}
 use Rattle.serde_json.specs.Data.{Data, string}
@@ -18,7 +18,7 @@ use Rattle.mesh_policy.specs.declared.jwt.TokenPlace.TheVariants as place
 use Rattle.envoy_types.specs.HeaderForms.{is_lower_token}
 use Rattle.envoy_types.specs.Jwt.{Provider}
 use Rattle.envoy_types.specs.Order.{are_places}
-use Rattle.envoy_types.specs.SmallForms.{fixed_faults, most_entries, one_of}
+use Rattle.envoy_types.specs.SmallForms.{fixed_faults, is_short_list, most_entries, one_of}
 use Rattle.envoy_types.specs.WrittenFields.{Field, field, list_field, object_of, optional_field, sole_field, text_field, truth_field}
 use Rattle.envoy_types.specs.declared.fixed.TheConstants.{KEYS_CLUSTER, KEYS_TIME, PAYLOAD}
 use Rattle.envoy_types.specs.declared.keys.TheConstants.{AUDIENCES, CLUSTER, FORWARD, FORWARD_PAYLOAD_HEADER, FROM_HEADERS}
@@ -155,10 +155,6 @@ provider_written provider = object_of
     ∷ [])
 
 -- ---- what can be written
-
--- a list within its limit
-abbrev pub is_short_list : {A : Type 0} → List A → Bool
-is_short_list xs = nat_le (length xs) most_entries
 
 -- the names of headers are in lower case
 abbrev pub place_is_printable : TokenPlace → Bool

@@ -1,6 +1,6 @@
 -- The small forms of a listener's JSON (Envoy v3 API reference, in the profile of docs/FORMATS.md): fixed texts, numbers in
 -- a range, lists of some length, objects of alternatives. In all of them `null` is a value of another kind.
-use Rattle.std.specs.Prelude.{ℕ, ◌+◌, ◌-◌, ◌==◌, Bool, true, ◌&&◌, nat_le, List, [], ◌∷◌, is_some}
+use Rattle.std.specs.Prelude.{ℕ, ◌+◌, ◌-◌, ◌==◌, Bool, true, ◌&&◌, nat_le, List, [], ◌∷◌, length, is_some}
 use Rattle.std.specs.Prelude.{if◌then◌else◌}
 use Rattle.std.specs.Option.{option_and_then}
 use Rattle.std.specs.Str.{bytes_eq}
@@ -55,6 +55,10 @@ abbrev pub port_faults : Check
 port_faults = number_within_faults 1 65535
 
 -- ---- lists
+
+-- a list within its limit
+abbrev pub is_short_list : {A : Type 0} → List A → Bool
+is_short_list xs = nat_le (length xs) most_entries
 
 -- a list that is not over its limit
 unfoldable pub short_list_faults : ℕ → Check

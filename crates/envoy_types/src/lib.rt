@@ -9,6 +9,7 @@ pub mod fixed;
 mod headers;
 mod jwt;
 pub mod keys;
+mod laws;
 mod metadata;
 mod names;
 mod permission;
@@ -25,6 +26,7 @@ pub use chains::{
 };
 pub use headers::{HeaderMatch, HeaderTest};
 pub use jwt::{JwtAuthn, JwtCheck, JwtProvider, Requirement};
+pub use laws::written_spells;
 pub use metadata::ValueMatcher;
 pub use names::{
     HTTP_AUTHZ_NAME, HTTP_AUTHZ_TYPE, HTTP_MANAGER_NAME, HTTP_MANAGER_TYPE, HTTP_RBAC_NAME,

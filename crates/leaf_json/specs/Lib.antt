@@ -1,3 +1,4 @@
+pub mod Fields
 pub mod Form
 pub use Rattle.serde_json.specs.View
 pub use Rattle.envoy_types.specs.StringForms

@@ -10,6 +10,7 @@ use mesh_text::Memory;
 use serde_json::Value;
 use std::alloc::Global;
 
+/// A block by the text of its address and its length (Envoy v3 API, `config.core.v3.CidrRange`).
 #[tactic(auto, unfolding(envoy_types::specs::BlockForms::block_written))]
 pub(crate) fn block_value(alloc: Global, block: &Cidr) -> Result<Value, Memory>
     ensures { IfOk result (λ v. view v ≡ block_written block.now) }
@@ -17,6 +18,10 @@ pub(crate) fn block_value(alloc: Global, block: &Cidr) -> Result<Value, Memory>
     let address = write_ip(alloc, &block.addr)?;
     let mut fields = Fields::new(alloc);
     fields.put_text(alloc, ADDRESS_PREFIX, &address)?;
-    fields.put(alloc, PREFIX_LEN, number_value(alloc, u16::from(block.len))?)?;
+    fields.put(
+        alloc,
+        PREFIX_LEN,
+        number_value(alloc, u16::from(block.len))?,
+    )?;
     Ok(fields.into_value())
 }

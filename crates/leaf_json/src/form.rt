@@ -6,13 +6,16 @@ use mesh_tree::Leaf;
 use serde_json::Value;
 use std::alloc::Global;
 
-/// The parts of a tree that have a name in JSON.
+/// The parts of a tree that have a name of their own in JSON.
 #[derive(Clone, Copy, Debug, PartialEq, Eq)]
 pub enum Word {
+    /// All of some trees.
     And,
+    /// One of some trees.
     Or,
     /// The field of an And or an Or that holds its parts.
     Parts,
+    /// Not one tree.
     Not,
 }
 
@@ -20,21 +23,21 @@ pub enum Word {
 pub trait Form: Leaf {
     ghost use Rattle.serde_json.specs.View.{view};
     ghost use Rattle.mesh_doc.specs.Known.{names_of};
-    ghost use Rattle.envoy_types.specs.TreeForms.{TreeForm, known_names};
-    ghost use Rattle.leaf_json.specs.Form.{HasOwnNames, ReadsBack, WritesLeaf, word_of};
+    ghost use Rattle.envoy_types.specs.TreeForms.{HasOwnNames, ReadsBack, TreeForm, WritesLeaf, known_names};
+    ghost use Rattle.leaf_json.specs.Form.{word_of};
 
     /// The words of the kind, and the form of its leaves: what is written, what can be wrong, and what it means.
     ghost form: { TreeForm Self };
 
-    /// The names of all alternatives, parted by single spaces.
+    /// The names of all alternatives, parted by single spaces. Takes no memory.
     fn known() -> &'static str
         ensures { names_of result.now ≡ known_names form };
 
-    /// The name of a part of a tree.
+    /// The name of a part of a tree. Takes no memory.
     fn word(word: Word) -> &'static str
         ensures { result.now ≡ word_of form word };
 
-    /// The leaf as an object with the one alternative.
+    /// The leaf as an object with the one alternative; `Memory` where there is no room.
     fn write(&self, alloc: Global) -> Result<Value, Memory>
         ensures { IfOk result (λ v. view v ≡ form.leaf_written self.now) };
 

@@ -1,12 +1,12 @@
 //! The JSON of string matchers, leaves and matcher trees, written (Envoy v3 API reference; docs/FORMATS.md has the forms),
-//! and the words by which every part of a listener is written.
+//! and the words by which every part of a listener is written. No field that has its default is written, and the members of
+//! each object stand in byte order of their names.
 #![tactic(auto)]
 
 mod blocks;
 mod fields;
 mod form;
 mod headers;
-mod lists;
 mod permission;
 mod principal;
 mod strings;
@@ -15,7 +15,6 @@ mod values;
 
 pub use fields::{Fields, config_of, named_value, number_value, sole_field, text_value};
 pub use form::{Form, Word};
-pub use lists::{Named, Spelled, list_value, map_value, values_of};
 pub use strings::string_to_value;
 pub use trees::{tree_list_value, tree_to_value};
 pub use values::segment_value;

@@ -12,21 +12,22 @@ use envoy_types::keys::{
     AND_RULES, DESTINATION_IP, DESTINATION_PORT, HEADER, NOT_RULE, OR_RULES, PATH, PATH_TEMPLATE,
     RULES, SERVER_NAME, URI_TEMPLATE, URL_PATH,
 };
-use envoy_types::whole::PermissionLeaf;
-use envoy_types::{URI_TEMPLATE_NAME, URI_TEMPLATE_TYPE};
+use envoy_types::{PermissionLeaf, URI_TEMPLATE_NAME, URI_TEMPLATE_TYPE};
 use mesh_text::Memory;
 use serde_json::Value;
 use std::alloc::Global;
 
 /// The names of all alternatives of a permission.
-const KNOWN: &str = "and_rules or_rules not_rule any destination_ip destination_port header requested_server_name uri_template url_path";
+const KNOWN: &str =
+    "and_rules or_rules not_rule any destination_ip destination_port header requested_server_name uri_template url_path";
 
 impl Form for PermissionLeaf {
     ghost use Rattle.envoy_types.specs.PermissionForms.{permission_form};
-    ghost use Rattle.leaf_json.proofs.PermissionLaws.{permission_names, permission_one_field, permission_reads_back};
+    ghost use Rattle.envoy_types.proofs.PermissionsBack.{permission-own-names, permission-reads-back, permission-writes};
 
     ghost form = { permission_form };
 
+    #[tactic(auto, unfolding(mesh_doc::specs::Known::names_of))]
     fn known() -> &'static str {
         KNOWN
     }
@@ -65,13 +66,14 @@ impl Form for PermissionLeaf {
         }
     }
 
-    ghost own_names = { permission_names };
+    ghost own_names = { permission-own-names };
 
-    ghost one_field = { permission_one_field };
+    ghost one_field = { permission-writes };
 
-    ghost reads_back = { permission_reads_back };
+    ghost reads_back = { permission-reads-back };
 }
 
+// A template as an extension with its configuration (`UriTemplateMatchConfig`).
 #[tactic(auto, unfolding(envoy_types::specs::PermissionForms::uri_template_written))]
 fn template_value(alloc: Global, uri: &str) -> Result<Value, Memory>
     ensures { IfOk result (λ v. view v ≡ uri_template_written uri.now) }

@@ -1,32 +1,39 @@
 //! The leaves of principals as JSON.
-ghost use Rattle.std.specs.Prelude.{◌≡◌, IfOk};
+ghost use Rattle.std.specs.Prelude.{◌≡◌, IfOk, OnOk};
 ghost use Rattle.std.specs.Option.{option_copied};
 ghost use Rattle.serde_json.specs.View.{view};
 ghost use Rattle.envoy_types.specs.PrincipalForms.{authenticated_written};
+ghost use Rattle.envoy_types.specs.StringForms.{string_written};
+ghost use Rattle.envoy_types.specs.WrittenFields.{optional_field, with_field};
+ghost use Rattle.envoy_types.specs.declared.keys.TheConstants.{PRINCIPAL_NAME};
+ghost use Rattle.leaf_json.specs.Fields.{members_of};
 
 use crate::blocks::block_value;
 use crate::fields::{Fields, sole_field};
 use crate::form::{Form, Word};
 use crate::headers::header_value;
+use crate::strings::string_to_value;
 use crate::values::metadata_value;
 use envoy_types::keys::{
     AND_IDS, AUTHENTICATED, DIRECT_REMOTE_IP, HEADER, IDS, METADATA, NOT_ID, OR_IDS,
     PRINCIPAL_NAME, REMOTE_IP,
 };
-use envoy_types::whole::{PrincipalLeaf, StringMatcher};
+use envoy_types::{PrincipalLeaf, StringMatcher};
 use mesh_text::Memory;
 use serde_json::Value;
 use std::alloc::Global;
 
 /// The names of all alternatives of a principal.
-const KNOWN: &str = "and_ids or_ids not_id any authenticated direct_remote_ip header metadata remote_ip";
+const KNOWN: &str =
+    "and_ids or_ids not_id any authenticated direct_remote_ip header metadata remote_ip";
 
 impl Form for PrincipalLeaf {
     ghost use Rattle.envoy_types.specs.PrincipalForms.{principal_form};
-    ghost use Rattle.leaf_json.proofs.PrincipalLaws.{principal_names, principal_one_field, principal_reads_back};
+    ghost use Rattle.envoy_types.proofs.PrincipalsBack.{principal-own-names, principal-reads-back, principal-writes};
 
     ghost form = { principal_form };
 
+    #[tactic(auto, unfolding(mesh_doc::specs::Known::names_of))]
     fn known() -> &'static str {
         KNOWN
     }
@@ -44,7 +51,11 @@ impl Form for PrincipalLeaf {
     fn write(&self, alloc: Global) -> Result<Value, Memory> {
         match self {
             PrincipalLeaf::Authenticated(name) => {
-                sole_field(alloc, AUTHENTICATED, authenticated_value(alloc, name.as_ref())?)
+                sole_field(
+                    alloc,
+                    AUTHENTICATED,
+                    authenticated_value(alloc, name.as_ref())?,
+                )
             }
             PrincipalLeaf::DirectRemoteIp(block) => {
                 sole_field(alloc, DIRECT_REMOTE_IP, block_value(alloc, block)?)
@@ -61,18 +72,33 @@ impl Form for PrincipalLeaf {
         }
     }
 
-    ghost own_names = { principal_names };
+    ghost own_names = { principal-own-names };
 
-    ghost one_field = { principal_one_field };
+    ghost one_field = { principal-writes };
 
-    ghost reads_back = { principal_reads_back };
+    ghost reads_back = { principal-reads-back };
 }
 
+// A peer that is known (`Principal.Authenticated`).
 #[tactic(auto, unfolding(envoy_types::specs::PrincipalForms::authenticated_written))]
 fn authenticated_value(alloc: Global, name: Option<&StringMatcher>) -> Result<Value, Memory>
     ensures { IfOk result (λ v. view v ≡ authenticated_written (option_copied name.entry)) }
 {
     let mut fields = Fields::new(alloc);
-    fields.put_optional(alloc, PRINCIPAL_NAME, name)?;
+    put_name(alloc, &mut fields, name)?;
     Ok(fields.into_value())
+}
+
+// The name of the peer, if there is one.
+fn put_name(alloc: Global, fields: &mut Fields, name: Option<&StringMatcher>) -> Result<(), Memory>
+    ensures { OnOk result (members_of fields.new
+        ≡ with_field (members_of fields.old) (optional_field PRINCIPAL_NAME.now string_written (option_copied name.entry))) }
+{
+    match name {
+        None => Ok(()),
+        Some(matcher) => {
+            let value = string_to_value(alloc, matcher)?;
+            fields.put(alloc, PRINCIPAL_NAME, value)
+        }
+    }
 }

@@ -4,14 +4,14 @@ ghost use Rattle.serde_json.specs.View.{view};
 ghost use Rattle.envoy_types.specs.StringForms.{match_key, string_written};
 
 use crate::fields::Fields;
-use crate::lists::Spelled;
 use envoy_types::keys::{CONTAINS, EXACT, IGNORE_CASE, PREFIX, SUFFIX};
-use envoy_types::whole::{MatchKind, StringMatcher};
+use envoy_types::{MatchKind, StringMatcher};
 use mesh_text::Memory;
 use serde_json::Value;
 use std::alloc::Global;
 
-/// The value that spells a matcher.
+/// The value that spells a matcher (Envoy v3 API, `type.matcher.v3.StringMatcher`), with `ignore_case` only where it is
+/// `true`; `Memory` where there is no room.
 #[tactic(auto, unfolding(envoy_types::specs::StringForms::string_written))]
 pub fn string_to_value(alloc: Global, matcher: &StringMatcher) -> Result<Value, Memory>
     ensures { IfOk result (λ v. view v ≡ string_written matcher.now) }
@@ -22,16 +22,7 @@ pub fn string_to_value(alloc: Global, matcher: &StringMatcher) -> Result<Value, 
     Ok(fields.into_value())
 }
 
-impl Spelled for StringMatcher {
-    ghost use Rattle.envoy_types.specs.StringForms.{string_written};
-
-    ghost written = { string_written };
-
-    fn to_value(&self, alloc: Global) -> Result<Value, Memory> {
-        string_to_value(alloc, self)
-    }
-}
-
+// The alternative of a kind.
 fn match_key(kind: MatchKind) -> &'static str
     ensures { result.now ≡ match_key kind }
 {

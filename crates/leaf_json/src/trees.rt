@@ -12,7 +12,8 @@ use mesh_tree::{Node, Tree};
 use serde_json::Value;
 use std::alloc::Global;
 
-/// The value that spells a tree. And and Or lists are written as they stand.
+/// The value that spells a tree (Envoy v3 API, `config.rbac.v3.Permission` or `Principal`, as its leaves are); `Memory` where
+/// there is no room. And and Or lists are written as they stand.
 #[cycle(write)]
 pub fn tree_to_value<L: Form>(alloc: Global, tree: &Tree<L>) -> Result<Value, Memory>
     ensures { IfOk result (λ v. view v ≡ tree_written L.form tree.now) }
@@ -37,7 +38,7 @@ pub fn tree_to_value<L: Form>(alloc: Global, tree: &Tree<L>) -> Result<Value, Me
     }
 }
 
-/// The list of the values of some trees.
+/// The list of the values of some trees, in their order; `Memory` where there is no room.
 #[cycle(write)]
 #[tactic(auto, unfolding(envoy_types::specs::WrittenFields::list_written))]
 pub fn tree_list_value<L: Form>(alloc: Global, trees: &[Tree<L>]) -> Result<Value, Memory>

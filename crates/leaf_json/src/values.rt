@@ -6,17 +6,16 @@ ghost use Rattle.envoy_types.specs.ValueForms as form;
 
 use crate::fields::{Fields, sole_field, text_value};
 use crate::strings::string_to_value;
-use envoy_types::JWT_NAME;
 use envoy_types::fixed::PAYLOAD;
 use envoy_types::keys::{
     FILTER, KEY, LIST_MATCH, ONE_OF, PATH, PRESENT_MATCH, STRING_MATCH, VALUE,
 };
-use envoy_types::whole::ValueMatcher;
+use envoy_types::{JWT_NAME, ValueMatcher};
 use mesh_text::{Memory, Text};
 use serde_json::Value;
 use std::alloc::Global;
 
-/// A key of a path (`type.matcher.v3.MetadataMatcher.PathSegment`).
+/// A key of a path (Envoy v3 API, `type.matcher.v3.MetadataMatcher.PathSegment`); `Memory` where there is no room.
 pub fn segment_value(alloc: Global, key: &str) -> Result<Value, Memory>
     ensures { IfOk result (λ v. view v ≡ form.segment_written key.now) }
 {
@@ -37,6 +36,7 @@ fn path_value(alloc: Global, keys: &[Text]) -> Result<Value, Memory>
     Ok(Value::Array(values))
 }
 
+// `ValueMatcher`: what is asked of the value.
 #[tactic(auto, unfolding(envoy_types::specs::ValueForms::value_written))]
 fn value_value(alloc: Global, value: &ValueMatcher) -> Result<Value, Memory>
     ensures { IfOk result (λ v. view v ≡ form.value_written value.now) }
@@ -59,6 +59,7 @@ fn value_value(alloc: Global, value: &ValueMatcher) -> Result<Value, Memory>
     }
 }
 
+// `ListMatcher`: an entry of the list is as told.
 fn list_match(alloc: Global, entry: Value) -> Result<Value, Memory>
     ensures { IfOk result (λ v. view v ≡ form.list_match_written (view entry)) }
 {
@@ -66,6 +67,7 @@ fn list_match(alloc: Global, entry: Value) -> Result<Value, Memory>
     sole_field(alloc, LIST_MATCH, inside)
 }
 
+/// A claim at a path of keys, and what is asked of it (Envoy v3 API, `type.matcher.v3.MetadataMatcher`).
 #[tactic(auto, unfolding(envoy_types::specs::ValueForms::metadata_written))]
 pub(crate) fn metadata_value(
     alloc: Global,

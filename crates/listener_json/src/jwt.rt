@@ -4,26 +4,27 @@ ghost use Rattle.serde_json.specs.Data.{array};
 ghost use Rattle.serde_json.specs.View.{items_of, view};
 ghost use Rattle.envoy_types.specs.JwtForms as form;
 
+use crate::lists::{Spelled, list_value, map_value, put_optional};
 use envoy_types::keys::{
-    ALLOW_MISSING, MATCH, PREFIX, PROVIDERS, PROVIDER_NAME, REQUIREMENTS, REQUIRES, REQUIRES_ANY,
+    ALLOW_MISSING, MATCH, PREFIX, PROVIDER_NAME, PROVIDERS, REQUIREMENTS, REQUIRES, REQUIRES_ANY,
     RULES,
 };
-use envoy_types::whole::{JwtAuthn, JwtCheck, Requirement};
-use envoy_types::{JWT_NAME, JWT_TYPE};
-use leaf_json::{
-    Fields, Spelled, config_of, list_value, map_value, named_value, sole_field, text_value,
-};
+use envoy_types::{JWT_NAME, JWT_TYPE, JwtAuthn, JwtCheck, Requirement};
+use leaf_json::{Fields, config_of, named_value, sole_field, text_value};
 use mesh_text::{Memory, Text};
 use serde_json::Value;
 use std::alloc::Global;
 
+/// The filter that judges tokens.
 #[tactic(auto, unfolding(envoy_types::specs::JwtForms::jwt_written))]
 pub(crate) fn jwt_value(alloc: Global, jwt: &JwtAuthn) -> Result<Value, Memory>
     ensures { IfOk result (λ v. view v ≡ form.jwt_written jwt.now) }
 {
+    let providers = map_value(alloc, &jwt.providers)?;
+    let rules = list_value(alloc, &jwt.rules)?;
     let mut config = config_of(alloc, JWT_TYPE)?;
-    config.put(alloc, PROVIDERS, map_value(alloc, &jwt.providers)?)?;
-    config.put(alloc, RULES, list_value(alloc, &jwt.rules)?)?;
+    config.put(alloc, PROVIDERS, providers)?;
+    config.put(alloc, RULES, rules)?;
     named_value(alloc, JWT_NAME, config.into_value())
 }
 
@@ -37,7 +38,7 @@ impl Spelled for JwtCheck {
         let paths = sole_field(alloc, PREFIX, text_value(alloc, &self.prefix)?)?;
         let mut fields = Fields::new(alloc);
         fields.put(alloc, MATCH, paths)?;
-        fields.put_optional(alloc, REQUIRES, self.requirement.as_ref())?;
+        put_optional(alloc, &mut fields, REQUIRES, self.requirement.as_ref())?;
         Ok(fields.into_value())
     }
 }
@@ -66,18 +67,16 @@ impl Spelled for Requirement {
 fn provider_name(alloc: Global, name: &str) -> Result<Value, Memory>
     ensures { IfOk result (λ v. view v ≡ form.provider_name_written name.now) }
 {
-    sole_field(alloc, PROVIDER_NAME, text_value(alloc, name)?)
+    let value = text_value(alloc, name)?;
+    sole_field(alloc, PROVIDER_NAME, value)
 }
 
+// The providers, and then that a token may be missing.
 fn requirements(alloc: Global, names: &[Text], allow_missing: bool) -> Result<Value, Memory>
     ensures { IfOk result (λ v. view v ≡ array (items_of
         (map form.provider_name_written names.now ++ form.missing_entries allow_missing))) }
 {
-    let mut values = Vec::new(alloc);
-    for name in names {
-        let value = provider_name(alloc, name)?;
-        serde_json::push(&mut values, value)?;
-    }
+    let mut values = provider_names(alloc, names)?;
     if allow_missing {
         let value = sole_field(alloc, ALLOW_MISSING, Fields::new(alloc).into_value())?;
         serde_json::push(&mut values, value)?;
@@ -85,4 +84,15 @@ fn requirements(alloc: Global, names: &[Text], allow_missing: bool) -> Result<Va
     } else {
         Ok(Value::Array(values))
     }
+}
+
+fn provider_names(alloc: Global, names: &[Text]) -> Result<Vec<Value>, Memory>
+    ensures { IfOk result (λ vs. map view vs.items ≡ map form.provider_name_written names.now) }
+{
+    let mut values = Vec::new(alloc);
+    for name in names {
+        let value = provider_name(alloc, name)?;
+        serde_json::push(&mut values, value)?;
+    }
+    Ok(values)
 }

@@ -6,6 +6,8 @@ mod chains;
 mod filters;
 mod jwt;
 mod listener;
+mod lists;
+mod places;
 mod providers;
 mod rbac;
 mod routes;

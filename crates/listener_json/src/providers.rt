@@ -1,20 +1,21 @@
 //! Token providers as JSON.
-ghost use Rattle.std.specs.List.{filter_map};
-ghost use Rattle.std.specs.Prelude.{◌≡◌, IfOk, OnOk, map};
-ghost use Rattle.serde_json.specs.Data.{string};
+ghost use Rattle.std.specs.Prelude.{◌≡◌, IfOk, OnOk};
 ghost use Rattle.serde_json.specs.View.{view};
 ghost use Rattle.envoy_types.specs.ProviderForms as form;
-ghost use Rattle.envoy_types.specs.WrittenFields.{list_field, with_field};
+ghost use Rattle.envoy_types.specs.WrittenFields.{fields_onto, with_field};
+ghost use Rattle.leaf_json.specs.Fields.{members_of};
+ghost use Rattle.listener_json.specs.Tokens.{token_fields};
 
+use crate::lists::{Named, Spelled, put_list, put_optional};
+use crate::places::{put_headers, put_params};
+use envoy_types::JwtProvider;
 use envoy_types::fixed::{KEYS_CLUSTER, KEYS_TIME, PAYLOAD};
 use envoy_types::keys::{
-    AUDIENCES, CLUSTER, FORWARD, FORWARD_PAYLOAD_HEADER, FROM_HEADERS, FROM_PARAMS, HTTP_URI,
-    INLINE_STRING, ISSUER, LOCAL_JWKS, NAME, PAYLOAD_IN_METADATA, REMOTE_JWKS, TIMEOUT, URI,
-    VALUE_PREFIX,
+    AUDIENCES, CLUSTER, FORWARD, FORWARD_PAYLOAD_HEADER, HTTP_URI, INLINE_STRING, ISSUER,
+    LOCAL_JWKS, PAYLOAD_IN_METADATA, REMOTE_JWKS, TIMEOUT, URI,
 };
-use envoy_types::whole::JwtProvider;
-use leaf_json::{Fields, Named, Spelled, sole_field, text_value};
-use mesh_policy::{Keys, TokenPlace};
+use leaf_json::{Fields, sole_field, text_value};
+use mesh_policy::{JwtRule, Keys};
 use mesh_text::Memory;
 use serde_json::Value;
 use std::alloc::Global;
@@ -27,11 +28,7 @@ impl Spelled for JwtProvider {
     #[tactic(auto, unfolding(envoy_types::specs::ProviderForms::provider_written))]
     fn to_value(&self, alloc: Global) -> Result<Value, Memory> {
         let mut fields = Fields::new(alloc);
-        fields.put_list(alloc, AUDIENCES, &self.rule.audiences)?;
-        fields.put_true(alloc, FORWARD, self.rule.forward)?;
-        fields.put_optional(alloc, FORWARD_PAYLOAD_HEADER, self.rule.payload_header.as_ref())?;
-        put_headers(alloc, &mut fields, &self.rule.places)?;
-        put_params(alloc, &mut fields, &self.rule.places)?;
+        put_tokens(alloc, &mut fields, &self.rule)?;
         fields.put_text(alloc, ISSUER, &self.rule.issuer)?;
         put_keys(alloc, &mut fields, &self.rule.keys)?;
         fields.put_text(alloc, PAYLOAD_IN_METADATA, PAYLOAD)?;
@@ -47,66 +44,25 @@ impl Named for JwtProvider {
     }
 }
 
-fn put_headers(alloc: Global, fields: &mut Fields, places: &[TokenPlace]) -> Result<(), Memory>
-    ensures { OnOk result (fields.new ≡ with_field fields.old
-        (list_field FROM_HEADERS.now form.from_header_written (filter_map form.header_of places.now))) }
+// Which tokens are taken, where they are found, and what is handed on of them.
+fn put_tokens(alloc: Global, fields: &mut Fields, rule: &JwtRule) -> Result<(), Memory>
+    ensures { OnOk result (members_of fields.new ≡ fields_onto (members_of fields.old) (token_fields rule.now)) }
 {
-    let values = header_values(alloc, places)?;
-    if values.is_empty() {
-        Ok(())
-    } else {
-        fields.put(alloc, FROM_HEADERS, Value::Array(values))
-    }
+    put_list(alloc, fields, AUDIENCES, &rule.audiences)?;
+    fields.put_true(alloc, FORWARD, rule.forward)?;
+    put_optional(
+        alloc,
+        fields,
+        FORWARD_PAYLOAD_HEADER,
+        rule.payload_header.as_ref(),
+    )?;
+    put_headers(alloc, fields, &rule.places)?;
+    put_params(alloc, fields, &rule.places)
 }
 
-fn header_values(alloc: Global, places: &[TokenPlace]) -> Result<Vec<Value>, Memory>
-    ensures { IfOk result (λ vs. map view vs.items ≡ map form.from_header_written (filter_map form.header_of places.now)) }
-{
-    let mut values = Vec::new(alloc);
-    for place in places {
-        if let TokenPlace::Header { name, prefix } = place {
-            serde_json::push(&mut values, from_header(alloc, name, prefix)?)?;
-        }
-    }
-    Ok(values)
-}
-
-#[tactic(auto, unfolding(envoy_types::specs::ProviderForms::from_header_written))]
-fn from_header(alloc: Global, name: &str, prefix: &str) -> Result<Value, Memory>
-    ensures { IfOk result (λ v. view v ≡ form.from_header_written (name.now, prefix.now)) }
-{
-    let mut fields = Fields::new(alloc);
-    fields.put_text(alloc, NAME, name)?;
-    fields.put_filled(alloc, VALUE_PREFIX, prefix)?;
-    Ok(fields.into_value())
-}
-
-fn put_params(alloc: Global, fields: &mut Fields, places: &[TokenPlace]) -> Result<(), Memory>
-    ensures { OnOk result (fields.new ≡ with_field fields.old
-        (list_field FROM_PARAMS.now string (filter_map form.param_of places.now))) }
-{
-    let values = param_values(alloc, places)?;
-    if values.is_empty() {
-        Ok(())
-    } else {
-        fields.put(alloc, FROM_PARAMS, Value::Array(values))
-    }
-}
-
-fn param_values(alloc: Global, places: &[TokenPlace]) -> Result<Vec<Value>, Memory>
-    ensures { IfOk result (λ vs. map view vs.items ≡ map string (filter_map form.param_of places.now)) }
-{
-    let mut values = Vec::new(alloc);
-    for place in places {
-        if let TokenPlace::Param(name) = place {
-            serde_json::push(&mut values, text_value(alloc, name)?)?;
-        }
-    }
-    Ok(values)
-}
-
+// The key set, or where it is fetched.
 fn put_keys(alloc: Global, fields: &mut Fields, keys: &Keys) -> Result<(), Memory>
-    ensures { OnOk result (fields.new ≡ with_field fields.old (form.keys_field keys.now)) }
+    ensures { OnOk result (members_of fields.new ≡ with_field (members_of fields.old) (form.keys_field keys.now)) }
 {
     match keys {
         Keys::Inline(set) => {

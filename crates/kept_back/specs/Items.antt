@@ -6,13 +6,13 @@ use Rattle.manifest_json.specs.declared.key.Kind.{Kind}
 use Rattle.manifest_json.specs.declared.key.Kind.TheVariants as kind
 use Rattle.kept_back.specs.Policies.{policy_kept}
 use Rattle.kept_back.specs.Services.{service_kept}
-use Rattle.kept_back.specs.Written.{is_kept}
+use Rattle.kept_back.specs.Written.{whole_kept}
 
 -- by its kind: a RequestAuthentication as a whole, and places of policies and Services
 abbrev pub kind_kept : Option Kind → Check
 kind_kept (Some kind.Authorization) = policy_kept
 kind_kept (Some kind.Service) = service_kept
-kind_kept (Some kind.Request) = is_kept
+kind_kept (Some kind.Request) = whole_kept
 kind_kept (Some kind.Pod) = λ d at. none
 kind_kept (Some kind.Peer) = λ d at. none
 kind_kept (Some kind.Mesh) = λ d at. none

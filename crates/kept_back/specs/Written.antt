@@ -8,8 +8,8 @@ use Rattle.mesh_doc.specs.declared.reason.Reason.TheVariants.{UnknownField}
 use Rattle.policy_json.specs.TargetRefs.{is_empty_list}
 
 -- no listener is built for the value yet, whatever it is
-unfoldable pub is_kept : Check
-is_kept d at = fault UnknownField at
+abbrev pub whole_kept : Check
+whole_kept d at = fault UnknownField at
 
 -- one is built for the values that pass the test
 abbrev pub unless_kept : (Data → Bool) → Check

@@ -46,6 +46,7 @@ impl Form for ItemEntry {
     }
 }
 
+#[tactic(auto, using(crate::proofs::ItemKinds::of_policy, crate::proofs::ItemKinds::of_core, crate::proofs::ItemKinds::of_other))]
 fn read_kind(
     alloc: Global,
     version: &str,
@@ -70,6 +71,7 @@ fn is_policy_version(version: &str) -> bool
     version == ISTIO_V1 || version == ISTIO_V1BETA1
 }
 
+#[tactic(auto, using(crate::proofs::ItemKinds::is_request))]
 fn read_policy_kind(alloc: Global, kind: &str, v: &Value, at: &Spot) -> Result<(), DocError>
     ensures { Reads result (kind_kept (table.policy_kind kind.now) (view v.now) at.now) tt }
 {

@@ -1,0 +1,5 @@
+pub mod Chosen
+pub mod Modes
+pub mod Ports
+pub mod Pruned
+pub mod Filters

@@ -3,3 +3,4 @@ pub mod Modes
 pub mod Ports
 pub mod Pruned
 pub mod Filters
+pub mod Verdict

@@ -22,7 +22,7 @@ use Rattle.envoy_types.specs.declared.chains.NetworkFilter.TheVariants as filter
 use Rattle.authz_gen.specs.Policies.{rbac_action, tcp_rbac}
 use Rattle.authz_gen.proofs.Decided.{decides}
 use Rattle.chain_build.specs.Buildable.{AskForPorts, IsBuildable}
-use Rattle.chain_build.specs.Chains.{filters_for, tcp_filters}
+use Rattle.chain_build.specs.Filters.{filters_for, tcp_filters}
 
 module _ (case : Case) (seen : Seen) where
   -- a state in which no shadow rule has told a name

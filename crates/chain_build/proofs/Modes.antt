@@ -3,7 +3,6 @@ use Rattle.std.proofs.Common.{◌≡◌, ℕ, Bool, true, false, ◌||◌, List,
 use Rattle.std.specs.List.{list_any, slice_get}
 use Rattle.std.specs.Str.{bytes_eq}
 use Rattle.mesh_policy.specs.Connection.{is_mesh_name, mesh_names, offers_mesh_name}
-use Rattle.mesh_policy.specs.Workload.{ListedPort}
 use Rattle.mesh_policy.specs.declared.case.Tls.{Tls}
 use Rattle.mesh_policy.specs.declared.peer.Mode.{Mode}
 use Rattle.mesh_policy.specs.declared.peer.Mode.TheVariants.{Disable, Permissive, Strict}
@@ -14,7 +13,7 @@ use Rattle.envoy_types.specs.declared.chains.Transport.TheVariants.{RawBuffer, T
 use Rattle.chain_build.specs.Chains.{tcp_chain, tcp_chains}
 use Rattle.chain_build.proofs.Pruned.{agreed_name, for_names, for_transport, narrowed}
 
-module _ (port : Option ListedPort) (filters : List NetworkFilter) where
+module _ (port : Option ℕ) (filters : List NetworkFilter) where
   -- ---- the chains of the table
 
   abbrev pub strict_chain : FilterChain

@@ -13,7 +13,8 @@ use Rattle.mesh_policy.specs.declared.peer.Mode.TheVariants.{Disable, Permissive
 use Rattle.envoy_types.specs.Chosen.{is_any_port, names_port}
 use Rattle.envoy_types.specs.declared.chains.FilterChain.{FilterChain}
 use Rattle.envoy_types.specs.declared.chains.NetworkFilter.{NetworkFilter}
-use Rattle.chain_build.specs.Chains.{chains_of_port, chains_with, tcp_chain, tcp_chains}
+use Rattle.chain_build.specs.Chains.{tcp_chain, tcp_chains}
+use Rattle.chain_build.specs.Listener.{chains_of_port, chains_with}
 use Rattle.chain_build.proofs.Pruned.{for_port}
 
 module _ (p : ℕ) (filters : List NetworkFilter) where
@@ -25,10 +26,10 @@ module _ (p : ℕ) (filters : List NetworkFilter) where
 
   -- ---- the chains of one port
 
-  named-here : (mode : Mode) (q : ListedPort) → filter names (tcp_chains mode (Some q) filters) ≡ cond (q.number == p) (tcp_chains mode (Some q) filters) []
+  named-here : (mode : Mode) (n : ℕ) → filter names (tcp_chains mode (Some n) filters) ≡ cond (n == p) (tcp_chains mode (Some n) filters) []
   unfolding tcp_chains tcp_chain
-  named-here mode q = at mode (q.number == p) refl where
-    at : (m : Mode) (b : Bool) → (q.number == p) ≡ b → filter names (tcp_chains m (Some q) filters) ≡ cond b (tcp_chains m (Some q) filters) []
+  named-here mode n = at mode (n == p) refl where
+    at : (m : Mode) (b : Bool) → (n == p) ≡ b → filter names (tcp_chains m (Some n) filters) ≡ cond b (tcp_chains m (Some n) filters) []
     at Strict true e = rw e refl
     at Strict false e = rw e refl
     at Permissive true e = rw e refl
@@ -36,10 +37,10 @@ module _ (p : ℕ) (filters : List NetworkFilter) where
     at Disable true e = rw e refl
     at Disable false e = rw e refl
 
-  any-here : (mode : Mode) (q : ListedPort) → list_any names (tcp_chains mode (Some q) filters) ≡ (q.number == p)
+  any-here : (mode : Mode) (n : ℕ) → list_any names (tcp_chains mode (Some n) filters) ≡ (n == p)
   unfolding tcp_chains tcp_chain
-  any-here mode q = at mode (q.number == p) refl where
-    at : (m : Mode) (b : Bool) → (q.number == p) ≡ b → list_any names (tcp_chains m (Some q) filters) ≡ b
+  any-here mode n = at mode (n == p) refl where
+    at : (m : Mode) (b : Bool) → (n == p) ≡ b → list_any names (tcp_chains m (Some n) filters) ≡ b
     at Strict true e = rw e refl
     at Strict false e = rw e refl
     at Permissive true e = rw e refl
@@ -47,11 +48,11 @@ module _ (p : ℕ) (filters : List NetworkFilter) where
     at Disable true e = rw e refl
     at Disable false e = rw e refl
 
-  open-here : (mode : Mode) (q : ListedPort) → filter is_open (tcp_chains mode (Some q) filters) ≡ []
+  open-here : (mode : Mode) (n : ℕ) → filter is_open (tcp_chains mode (Some n) filters) ≡ []
   unfolding tcp_chains tcp_chain
-  open-here Strict q = refl
-  open-here Permissive q = refl
-  open-here Disable q = refl
+  open-here Strict n = refl
+  open-here Permissive n = refl
+  open-here Disable n = refl
 
   -- ---- the chains of the ports that are not listed
 
@@ -88,7 +89,7 @@ module _ (p : ℕ) (filters : List NetworkFilter) where
   any-listed [] = refl
   any-listed (q ∷ ports) =
       list_any-append names (chains_of_port filters q) (listed ports)
-      ∙ ap (λ b. b || list_any names (listed ports)) (any-here q.mode q)
+      ∙ ap (λ b. b || list_any names (listed ports)) (any-here q.mode q.number)
       ∙ at (q.number == p) (any-listed ports) where
         at : (b : Bool) → list_any names (listed ports) ≡ is_some (find is_it ports)
             → (b || list_any names (listed ports)) ≡ is_some (cond b (Some q) (find is_it ports))
@@ -99,7 +100,7 @@ module _ (p : ℕ) (filters : List NetworkFilter) where
   open-listed [] = refl
   open-listed (q ∷ ports) =
       filter-append is_open (chains_of_port filters q) (listed ports)
-      ∙ ap (λ cs. cs ++ filter is_open (listed ports)) (open-here q.mode q) ∙ open-listed ports
+      ∙ ap (λ cs. cs ++ filter is_open (listed ports)) (open-here q.mode q.number) ∙ open-listed ports
 
   other-number : (q : ListedPort) → p < q.number → (q.number == p) ≡ false
   other-number q below = at (q.number == p) refl where
@@ -111,7 +112,7 @@ module _ (p : ℕ) (filters : List NetworkFilter) where
   none-later [] h = refl
   none-later (q ∷ ports) h =
       filter-append names (chains_of_port filters q) (listed ports)
-      ∙ ap (λ cs. cs ++ filter names (listed ports)) (named-here q.mode q)
+      ∙ ap (λ cs. cs ++ filter names (listed ports)) (named-here q.mode q.number)
       ∙ ap (λ b. cond b (chains_of_port filters q) [] ++ filter names (listed ports))
       (other-number q (All-head (λ (later : ListedPort). p < later.number) q ports h))
       ∙ none-later ports (All-tail (λ (later : ListedPort). p < later.number) q ports h)
@@ -127,7 +128,7 @@ module _ (p : ℕ) (filters : List NetworkFilter) where
       let first : All (Below q) ports = λ k d within. h 0 (suc k) d (omega arith) (omega arith) in
       let later : AllPairs Below ports = λ i j d before within. h (suc i) (suc j) d (omega arith) (omega arith) in
       filter-append names (chains_of_port filters q) (listed ports)
-      ∙ ap (λ cs. cs ++ filter names (listed ports)) (named-here q.mode q)
+      ∙ ap (λ cs. cs ++ filter names (listed ports)) (named-here q.mode q.number)
       ∙ at (q.number == p) refl first (named-listed ports later) where
         at : (b : Bool) → (q.number == p) ≡ b → All (Below q) ports → filter names (listed ports) ≡ chains_found (find is_it ports)
             → cond b (chains_of_port filters q) [] ++ filter names (listed ports) ≡ chains_found (cond b (Some q) (find is_it ports))
@@ -141,7 +142,7 @@ module _ (p : ℕ) (filters : List NetworkFilter) where
 
   abbrev left_for : Mode → Option ListedPort → List FilterChain
   left_for other None = tcp_chains other None filters
-  left_for other (Some q) = tcp_chains q.mode (Some q) filters
+  left_for other (Some q) = tcp_chains q.mode (Some q.number) filters
 
   left-at : (other : Mode) (ports : List ListedPort) → AllPairs Below ports
       → for_port p (listed ports ++ tcp_chains other None filters) ≡ left_for other (find is_it ports)
@@ -170,11 +171,12 @@ module _ (p : ℕ) (filters : List NetworkFilter) where
 
 -- those of the port's mode, and of the mode of the ports that are not listed where it is none
 pub kept-port : (workload : Workload) (filters : List NetworkFilter) (p : ℕ) → AllPairs (λ port later. port.number < later.number) workload.ports
-    → for_port p (chains_with workload filters) ≡ tcp_chains (mode_of workload p) (port_at workload p) filters
+    → for_port p (chains_with workload filters) ≡ tcp_chains (mode_of workload p) (option_map (λ port. port.number) (port_at workload p)) filters
 unfolding chains_with
 kept-port workload filters p rising = left-at p filters workload.other_mode workload.ports rising ∙ at (port_at workload p) where
   at : (found : Option ListedPort)
       → left_for p filters workload.other_mode found
-      ≡ tcp_chains (unwrap_or (option_map (λ (port : ListedPort). port.mode) found) workload.other_mode) found filters
+      ≡ tcp_chains (unwrap_or (option_map (λ (port : ListedPort). port.mode) found) workload.other_mode)
+      (option_map (λ (port : ListedPort). port.number) found) filters
   at None = refl
   at (Some q) = refl

@@ -4,7 +4,7 @@ use Rattle.std.proofs.lemmas.List.Elements.{All-head, All-tail}
 use Rattle.std.specs.Option.{option_map}
 use Rattle.mesh_policy.specs.Connection.{offers_mesh_name, passage}
 use Rattle.mesh_policy.specs.Verdicts as mesh
-use Rattle.mesh_policy.specs.Workload.{ListedPort, Workload, mode_of, port_at, protocol_of}
+use Rattle.mesh_policy.specs.Workload.{ListedPort, Workload, mode_of, protocol_of}
 use Rattle.mesh_policy.specs.declared.case.Case.{Case}
 use Rattle.mesh_policy.specs.declared.case.Tls.{Tls}
 use Rattle.mesh_policy.specs.declared.peer.Mode.{Mode}
@@ -14,8 +14,10 @@ use Rattle.mesh_policy.specs.declared.service.Protocol.TheVariants.{Tcp}
 use Rattle.mesh_policy.specs.declared.verdict.Verdict.{Verdict}
 use Rattle.envoy_types.specs.ListenerVerdict.{envoy_verdict, verdict_by}
 use Rattle.chain_build.specs.Buildable.{IsBuildable}
-use Rattle.chain_build.specs.Chains.{built, tcp_chain, tcp_filters}
-use Rattle.chain_build.proofs.Chosen.{chosen-chain}
+use Rattle.chain_build.specs.Chains.{tcp_chain}
+use Rattle.chain_build.specs.Filters.{tcp_filters}
+use Rattle.chain_build.specs.Listener.{built}
+use Rattle.chain_build.proofs.Chosen.{chosen-chain, number_at}
 use Rattle.chain_build.proofs.Filters.{filters-decide}
 use Rattle.chain_build.proofs.Modes.{chain_for}
 
@@ -47,7 +49,7 @@ with_tls c tls = record {
   answers = c.answers;
 }
 
-module _ (workload : Workload) (h : IsBuildable workload) (port : Option ListedPort) (c : Case) where
+module _ (workload : Workload) (h : IsBuildable workload) (port : Option ℕ) (c : Case) where
   -- what the policies say of the connection by its mode
   abbrev said : Mode → Option Tls → Verdict
   said mode tls = mesh.verdict_by workload (with_tls c tls)
@@ -86,7 +88,7 @@ pub agree : (workload : Workload) → IsBuildable workload → AllPairs (λ port
 unfolding envoy_verdict mesh.verdict_of mesh.arrival
 agree workload h rising case =
     ap (λ chain. verdict_by chain case) (chosen-chain workload case rising)
-    ∙ agrees-at workload h (port_at workload case.port) case (mode_of workload case.port) case.tls
+    ∙ agrees-at workload h (number_at workload case.port) case (mode_of workload case.port) case.tls
     ∙ ap (λ protocol. mesh.verdict_by workload case
     (mesh.arrival_on workload case protocol (mesh.known_peer protocol (passage (mode_of workload case.port) case.tls))))
     (sym (speaks-tcp workload h case.port))

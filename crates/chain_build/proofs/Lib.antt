@@ -1,5 +1,6 @@
 pub mod Chosen
-pub mod Filters
 pub mod Modes
 pub mod Ports
-pub mod Verdicts
+pub mod Pruned
+pub mod Filters
+pub mod Verdict

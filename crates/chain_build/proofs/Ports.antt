@@ -1,198 +1,182 @@
--- The chains of a workload that are left for a port: those of the port by its mode, or those of all other ports.
-use Rattle.std.proofs.Common.{arith, ◌≡◌, ℕ, suc, ◌==◌, ◌<◌, Bool, true, false, cond, ◌||◌, List, [], ◌∷◌, ◌++◌, filter, find}
-use Rattle.std.proofs.Common.{flat_map, Option, Some, None, is_some, refl, sym, ◌∙◌, ap}
+-- Of the chains of a workload those of the connection's port are left.
+use Rattle.std.proofs.Common.{◌≡◌, ℕ, ◌<◌, ◌==◌, Bool, true, false, ◌||◌, All, AllPairs, List, [], ◌∷◌, ◌++◌, filter, find, flat_map, Option, Some, None, is_some, unwrap_or, cond, suc, if◌then◌else◌, refl, sym, ◌∙◌, ap, arith}
+use Rattle.std.proofs.Math.Bool.{or-false}
 use Rattle.std.proofs.lemmas.Bool.{eqb-true}
 use Rattle.std.proofs.lemmas.List.{append-nil}
-use Rattle.std.proofs.lemmas.List.Elements.{filter-append}
-use Rattle.std.proofs.lemmas.List.Folds.{list_any-append, list_any_none}
-use Rattle.std.specs.List.{AllPairs, list_any}
+use Rattle.std.proofs.lemmas.List.Elements.{All-head, All-tail, filter-append}
+use Rattle.std.proofs.lemmas.List.Folds.{list_any-append}
+use Rattle.std.specs.List.{list_any}
+use Rattle.std.specs.Option.{option_map}
 use Rattle.mesh_policy.specs.Workload.{ListedPort, Workload, mode_of, port_at}
 use Rattle.mesh_policy.specs.declared.peer.Mode.{Mode}
 use Rattle.mesh_policy.specs.declared.peer.Mode.TheVariants.{Disable, Permissive, Strict}
 use Rattle.envoy_types.specs.Chosen.{is_any_port, names_port}
 use Rattle.envoy_types.specs.declared.chains.FilterChain.{FilterChain}
 use Rattle.envoy_types.specs.declared.chains.NetworkFilter.{NetworkFilter}
-use Rattle.chain_build.specs.Chains.{chains_of_port, chains_with, tcp_chain, tcp_chains}
-use Rattle.chain_build.proofs.Modes.{by_port}
+use Rattle.chain_build.specs.Chains.{tcp_chain, tcp_chains}
+use Rattle.chain_build.specs.Listener.{chains_of_port, chains_with}
+use Rattle.chain_build.proofs.Pruned.{for_port}
 
--- the numbers of the ports rise, so no two are the same
-abbrev pub Rising : List ListedPort → Type 0
-Rising ports = AllPairs (λ port later. port.number < later.number) ports
+module _ (p : ℕ) (filters : List NetworkFilter) where
+  abbrev names : FilterChain → Bool
+  names c = names_port p c.matching
 
--- the port has this number
-abbrev has_number : ℕ → ListedPort → Bool
-has_number n port = port.number == n
+  abbrev is_open : FilterChain → Bool
+  is_open c = is_any_port c.matching
 
--- the chain is for this port, and for the ports that are not listed
-abbrev is_for : ℕ → FilterChain → Bool
-is_for n chain = names_port n chain.matching
+  -- ---- the chains of one port
 
-abbrev is_open : FilterChain → Bool
-is_open chain = is_any_port chain.matching
+  named-here : (mode : Mode) (n : ℕ) → filter names (tcp_chains mode (Some n) filters) ≡ cond (n == p) (tcp_chains mode (Some n) filters) []
+  unfolding tcp_chains tcp_chain
+  named-here mode n = at mode (n == p) refl where
+    at : (m : Mode) (b : Bool) → (n == p) ≡ b → filter names (tcp_chains m (Some n) filters) ≡ cond b (tcp_chains m (Some n) filters) []
+    at Strict true e = rw e refl
+    at Strict false e = rw e refl
+    at Permissive true e = rw e refl
+    at Permissive false e = rw e refl
+    at Disable true e = rw e refl
+    at Disable false e = rw e refl
 
--- ---- the chains of one port
+  any-here : (mode : Mode) (n : ℕ) → list_any names (tcp_chains mode (Some n) filters) ≡ (n == p)
+  unfolding tcp_chains tcp_chain
+  any-here mode n = at mode (n == p) refl where
+    at : (m : Mode) (b : Bool) → (n == p) ≡ b → list_any names (tcp_chains m (Some n) filters) ≡ b
+    at Strict true e = rw e refl
+    at Strict false e = rw e refl
+    at Permissive true e = rw e refl
+    at Permissive false e = rw e refl
+    at Disable true e = rw e refl
+    at Disable false e = rw e refl
 
-kept : (n : ℕ) (mode : Mode) (port : ListedPort) (filters : List NetworkFilter) → (port.number == n) ≡ true
-    → filter (is_for n) (tcp_chains mode (Some port) filters) ≡ tcp_chains mode (Some port) filters
-unfolding tcp_chain tcp_chains
-kept n Strict port filters e = rw e refl
-kept n Permissive port filters e = rw e refl
-kept n Disable port filters e = rw e refl
+  open-here : (mode : Mode) (n : ℕ) → filter is_open (tcp_chains mode (Some n) filters) ≡ []
+  unfolding tcp_chains tcp_chain
+  open-here Strict n = refl
+  open-here Permissive n = refl
+  open-here Disable n = refl
 
-dropped : (n : ℕ) (mode : Mode) (port : ListedPort) (filters : List NetworkFilter) → (port.number == n) ≡ false
-    → filter (is_for n) (tcp_chains mode (Some port) filters) ≡ []
-unfolding tcp_chain tcp_chains
-dropped n Strict port filters e = rw e refl
-dropped n Permissive port filters e = rw e refl
-dropped n Disable port filters e = rw e refl
+  -- ---- the chains of the ports that are not listed
 
-thrice : (b : Bool) → (b || (b || (b || false))) ≡ b
-thrice true = refl
-thrice false = refl
+  named-others : (mode : Mode) → filter names (tcp_chains mode None filters) ≡ []
+  unfolding tcp_chains tcp_chain
+  named-others Strict = refl
+  named-others Permissive = refl
+  named-others Disable = refl
 
-once : (b : Bool) → (b || false) ≡ b
-once true = refl
-once false = refl
+  any-others : (mode : Mode) → list_any names (tcp_chains mode None filters) ≡ false
+  unfolding tcp_chains tcp_chain
+  any-others Strict = refl
+  any-others Permissive = refl
+  any-others Disable = refl
 
-any-of : (n : ℕ) (mode : Mode) (port : ListedPort) (filters : List NetworkFilter)
-    → list_any (is_for n) (tcp_chains mode (Some port) filters) ≡ (port.number == n)
-unfolding tcp_chain tcp_chains
-any-of n Strict port filters = once (port.number == n)
-any-of n Permissive port filters = thrice (port.number == n)
-any-of n Disable port filters = once (port.number == n)
+  open-others : (mode : Mode) → filter is_open (tcp_chains mode None filters) ≡ tcp_chains mode None filters
+  unfolding tcp_chains tcp_chain
+  open-others Strict = refl
+  open-others Permissive = refl
+  open-others Disable = refl
 
-closed-of : (mode : Mode) (port : ListedPort) (filters : List NetworkFilter) → filter is_open (tcp_chains mode (Some port) filters) ≡ []
-unfolding tcp_chain tcp_chains
-closed-of Strict port filters = refl
-closed-of Permissive port filters = refl
-closed-of Disable port filters = refl
+  -- ---- the chains of all listed ports
 
--- ---- those of all other ports
+  abbrev Below : ListedPort → ListedPort → Type 0
+  Below port later = port.number < later.number
 
-any-other : (n : ℕ) (mode : Mode) (filters : List NetworkFilter) → list_any (is_for n) (tcp_chains mode None filters) ≡ false
-unfolding tcp_chain tcp_chains
-any-other n Strict filters = refl
-any-other n Permissive filters = refl
-any-other n Disable filters = refl
+  abbrev is_it : ListedPort → Bool
+  is_it port = port.number == p
 
-dropped-other : (n : ℕ) (mode : Mode) (filters : List NetworkFilter) → filter (is_for n) (tcp_chains mode None filters) ≡ []
-unfolding tcp_chain tcp_chains
-dropped-other n Strict filters = refl
-dropped-other n Permissive filters = refl
-dropped-other n Disable filters = refl
+  abbrev listed : List ListedPort → List FilterChain
+  listed ports = flat_map (chains_of_port filters) ports
 
-open-other : (mode : Mode) (filters : List NetworkFilter)
-    → filter is_open (tcp_chains mode None filters) ≡ tcp_chains mode None filters
-unfolding tcp_chain tcp_chains
-open-other Strict filters = refl
-open-other Permissive filters = refl
-open-other Disable filters = refl
+  any-listed : (ports : List ListedPort) → list_any names (listed ports) ≡ is_some (find is_it ports)
+  any-listed [] = refl
+  any-listed (q ∷ ports) =
+      list_any-append names (chains_of_port filters q) (listed ports)
+      ∙ ap (λ b. b || list_any names (listed ports)) (any-here q.mode q.number)
+      ∙ at (q.number == p) (any-listed ports) where
+        at : (b : Bool) → list_any names (listed ports) ≡ is_some (find is_it ports)
+            → (b || list_any names (listed ports)) ≡ is_some (cond b (Some q) (find is_it ports))
+        at true h = refl
+        at false h = h
 
--- ---- the chains of the listed ports
+  open-listed : (ports : List ListedPort) → filter is_open (listed ports) ≡ []
+  open-listed [] = refl
+  open-listed (q ∷ ports) =
+      filter-append is_open (chains_of_port filters q) (listed ports)
+      ∙ ap (λ cs. cs ++ filter is_open (listed ports)) (open-here q.mode q.number) ∙ open-listed ports
 
-any-listed : (n : ℕ) (filters : List NetworkFilter) (ports : List ListedPort)
-    → list_any (is_for n) (flat_map (chains_of_port filters) ports) ≡ list_any (has_number n) ports
-any-listed n filters [] = refl
-any-listed n filters (port ∷ ports) =
-    list_any-append (is_for n) (chains_of_port filters port) (flat_map (chains_of_port filters) ports)
-    ∙ ap (λ b. b || list_any (is_for n) (flat_map (chains_of_port filters) ports)) (any-of n port.mode port filters)
-    ∙ ap (λ b. (port.number == n) || b) (any-listed n filters ports)
+  other-number : (q : ListedPort) → p < q.number → (q.number == p) ≡ false
+  other-number q below = at (q.number == p) refl where
+    at : (b : Bool) → (q.number == p) ≡ b → b ≡ false
+    at true e = let same : q.number ≡ p = eqb-true q.number p e in absurd (omega (arith, same))
+    at false e = refl
 
-closed-listed : (filters : List NetworkFilter) (ports : List ListedPort) → filter is_open (flat_map (chains_of_port filters) ports) ≡ []
-closed-listed filters [] = refl
-closed-listed filters (port ∷ ports) =
-    filter-append is_open (chains_of_port filters port) (flat_map (chains_of_port filters) ports)
-    ∙ ap (λ chains. chains ++ filter is_open (flat_map (chains_of_port filters) ports)) (closed-of port.mode port filters)
-    ∙ closed-listed filters ports
+  none-later : (ports : List ListedPort) → All (λ later. p < later.number) ports → filter names (listed ports) ≡ []
+  none-later [] h = refl
+  none-later (q ∷ ports) h =
+      filter-append names (chains_of_port filters q) (listed ports)
+      ∙ ap (λ cs. cs ++ filter names (listed ports)) (named-here q.mode q.number)
+      ∙ ap (λ b. cond b (chains_of_port filters q) [] ++ filter names (listed ports))
+      (other-number q (All-head (λ (later : ListedPort). p < later.number) q ports h))
+      ∙ none-later ports (All-tail (λ (later : ListedPort). p < later.number) q ports h)
 
-or-false-parts : (a b : Bool) → (a || b) ≡ false → (a ≡ false) × (b ≡ false)
-or-false-parts true b h = cc
-or-false-parts false b h = (refl, h)
+  -- the chains of the port that is found
+  abbrev chains_found : Option ListedPort → List FilterChain
+  chains_found None = []
+  chains_found (Some q) = chains_of_port filters q
 
-absent : (n : ℕ) (filters : List NetworkFilter) (ports : List ListedPort) → list_any (has_number n) ports ≡ false
-    → filter (is_for n) (flat_map (chains_of_port filters) ports) ≡ []
-absent n filters [] h = refl
-absent n filters (port ∷ ports) h =
-    filter-append (is_for n) (chains_of_port filters port) (flat_map (chains_of_port filters) ports)
-    ∙ ap (λ chains. chains ++ filter (is_for n) (flat_map (chains_of_port filters) ports))
-    (dropped n port.mode port filters (or-false-parts _ _ h).0)
-    ∙ absent n filters ports (or-false-parts _ _ h).1
+  named-listed : (ports : List ListedPort) → AllPairs Below ports → filter names (listed ports) ≡ chains_found (find is_it ports)
+  named-listed [] h = refl
+  named-listed (q ∷ ports) h =
+      let first : All (Below q) ports = λ k d within. h 0 (suc k) d (omega arith) (omega arith) in
+      let later : AllPairs Below ports = λ i j d before within. h (suc i) (suc j) d (omega arith) (omega arith) in
+      filter-append names (chains_of_port filters q) (listed ports)
+      ∙ ap (λ cs. cs ++ filter names (listed ports)) (named-here q.mode q.number)
+      ∙ at (q.number == p) refl first (named-listed ports later) where
+        at : (b : Bool) → (q.number == p) ≡ b → All (Below q) ports → filter names (listed ports) ≡ chains_found (find is_it ports)
+            → cond b (chains_of_port filters q) [] ++ filter names (listed ports) ≡ chains_found (cond b (Some q) (find is_it ports))
+        at true e first h =
+            let same : q.number ≡ p = eqb-true q.number p e in
+            ap (λ cs. chains_of_port filters q ++ cs) (none-later ports (λ k d within. omega (arith, same, first k d within)))
+            ∙ append-nil (chains_of_port filters q)
+        at false e first h = h
 
-above : (m n : ℕ) → n < m → (m == n) ≡ false
-above m n h = at (m == n) refl where
-  at : (b : Bool) → (m == n) ≡ b → b ≡ false
-  at true e = let same = eqb-true m n e in absurd (omega (arith, same))
-  at false e = refl
+  -- ---- all chains
 
-later-differ : (port : ListedPort) (ports : List ListedPort) (n : ℕ) → Rising (port ∷ ports) → (port.number == n) ≡ true
-    → list_any (has_number n) ports ≡ false
-later-differ port ports n rising e =
-    list_any_none (has_number n) ports (λ k d within. above _ n
-    (let same = eqb-true port.number n e in
-    let below = rising 0 (suc k) d (omega arith) (omega arith) in
-    omega (arith, same, below)))
+  abbrev left_for : Mode → Option ListedPort → List FilterChain
+  left_for other None = tcp_chains other None filters
+  left_for other (Some q) = tcp_chains q.mode (Some q.number) filters
 
-rising-tail : (port : ListedPort) (ports : List ListedPort) → Rising (port ∷ ports) → Rising ports
-rising-tail port ports rising i j d lt within = rising (suc i) (suc j) d (omega arith) (omega arith)
+  left-at : (other : Mode) (ports : List ListedPort) → AllPairs Below ports
+      → for_port p (listed ports ++ tcp_chains other None filters) ≡ left_for other (find is_it ports)
+  left-at other ports h =
+      ap (λ b. cond b (filter names whole) (filter is_open whole))
+      (list_any-append names (listed ports) others
+      ∙ ap (λ b. list_any names (listed ports) || b) (any-others other)
+      ∙ or-false (list_any names (listed ports))
+      ∙ any-listed ports)
+      ∙ at (find is_it ports) (named-listed ports h) where
+        others : List FilterChain
+        others = tcp_chains other None filters
+        whole : List FilterChain
+        whole = listed ports ++ others
+        at : (found : Option ListedPort) → filter names (listed ports) ≡ chains_found found
+            → cond (is_some found) (filter names (listed ports ++ tcp_chains other None filters)) (filter is_open (listed ports ++ tcp_chains other None filters))
+            ≡ left_for other found
+        at None e =
+            filter-append is_open (listed ports) (tcp_chains other None filters)
+            ∙ ap (λ cs. cs ++ filter is_open (tcp_chains other None filters)) (open-listed ports)
+            ∙ open-others other
+        at (Some q) e =
+            filter-append names (listed ports) (tcp_chains other None filters)
+            ∙ ap (λ cs. filter names (listed ports) ++ cs) (named-others other)
+            ∙ append-nil (filter names (listed ports)) ∙ e
 
-some-same : {A : Type 0} (x y : A) → Some x ≡ Some y → x ≡ y
-some-same x y h = cc
-
-found : (n : ℕ) (filters : List NetworkFilter) (ports : List ListedPort) (port : ListedPort) → Rising ports
-    → find (has_number n) ports ≡ Some port
-    → filter (is_for n) (flat_map (chains_of_port filters) ports) ≡ chains_of_port filters port
-found n filters [] port rising h = cc
-found n filters (first ∷ ports) port rising h =
-    filter-append (is_for n) (chains_of_port filters first) (flat_map (chains_of_port filters) ports)
-    ∙ at (first.number == n) refl h (found n filters ports port (rising-tail first ports rising)) where
-      at : (b : Bool) → (first.number == n) ≡ b → cond b (Some first) (find (has_number n) ports) ≡ Some port
-          → (find (has_number n) ports ≡ Some port
-          → filter (is_for n) (flat_map (chains_of_port filters) ports) ≡ chains_of_port filters port)
-          → filter (is_for n) (chains_of_port filters first) ++ filter (is_for n) (flat_map (chains_of_port filters) ports)
-          ≡ chains_of_port filters port
-      at true e h inner = rw (kept n first.mode first filters e, absent n filters ports (later-differ first ports n rising e))
-          (append-nil (chains_of_port filters first) ∙ ap (chains_of_port filters) (some-same first port h))
-      at false e h inner = rw (dropped n first.mode first filters e) (inner h)
-
-find-any : (n : ℕ) (ports : List ListedPort) → is_some (find (has_number n) ports) ≡ list_any (has_number n) ports
-find-any n [] = refl
-find-any n (port ∷ ports) = at (port.number == n) (find-any n ports) where
-  at : (b : Bool) → is_some (find (has_number n) ports) ≡ list_any (has_number n) ports
-      → is_some (cond b (Some port) (find (has_number n) ports)) ≡ (b || list_any (has_number n) ports)
-  at true h = refl
-  at false h = h
-
--- ---- of all chains
-
-any-chain : (w : Workload) (filters : List NetworkFilter) (n : ℕ)
-    → list_any (is_for n) (chains_with w filters) ≡ is_some (port_at w n)
+-- those of the port's mode, and of the mode of the ports that are not listed where it is none
+pub kept-port : (workload : Workload) (filters : List NetworkFilter) (p : ℕ) → AllPairs (λ port later. port.number < later.number) workload.ports
+    → for_port p (chains_with workload filters) ≡ tcp_chains (mode_of workload p) (option_map (λ port. port.number) (port_at workload p)) filters
 unfolding chains_with
-any-chain w filters n =
-    list_any-append (is_for n) (flat_map (chains_of_port filters) w.ports) (tcp_chains w.other_mode None filters)
-    ∙ ap (λ b. list_any (is_for n) (flat_map (chains_of_port filters) w.ports) || b) (any-other n w.other_mode filters)
-    ∙ once (list_any (is_for n) (flat_map (chains_of_port filters) w.ports))
-    ∙ any-listed n filters w.ports
-    ∙ sym (find-any n w.ports)
-
-named : (w : Workload) → Rising w.ports → (filters : List NetworkFilter) (n : ℕ) (port : ListedPort) → port_at w n ≡ Some port
-    → filter (is_for n) (chains_with w filters) ≡ chains_of_port filters port
-unfolding chains_with
-named w rising filters n port e =
-    filter-append (is_for n) (flat_map (chains_of_port filters) w.ports) (tcp_chains w.other_mode None filters)
-    ∙ ap (λ chains. filter (is_for n) (flat_map (chains_of_port filters) w.ports) ++ chains) (dropped-other n w.other_mode filters)
-    ∙ append-nil (filter (is_for n) (flat_map (chains_of_port filters) w.ports))
-    ∙ found n filters w.ports port rising e
-
-open-chains : (w : Workload) (filters : List NetworkFilter) → filter is_open (chains_with w filters) ≡ tcp_chains w.other_mode None filters
-unfolding chains_with
-open-chains w filters =
-    filter-append is_open (flat_map (chains_of_port filters) w.ports) (tcp_chains w.other_mode None filters)
-    ∙ ap (λ chains. chains ++ filter is_open (tcp_chains w.other_mode None filters)) (closed-listed filters w.ports)
-    ∙ open-other w.other_mode filters
-
-pub port-chains : (w : Workload) → Rising w.ports → (filters : List NetworkFilter) (n : ℕ)
-    → by_port n (chains_with w filters) ≡ tcp_chains (mode_of w n) (port_at w n) filters
-port-chains w rising filters n = at (port_at w n) refl where
-  at : (o : Option ListedPort) → port_at w n ≡ o → by_port n (chains_with w filters) ≡ tcp_chains (mode_of w n) (port_at w n) filters
-  at (Some port) e = rw (any-chain w filters n, e, named w rising filters n port e) refl
-  at None e = rw (any-chain w filters n, e, open-chains w filters) refl
+kept-port workload filters p rising = left-at p filters workload.other_mode workload.ports rising ∙ at (port_at workload p) where
+  at : (found : Option ListedPort)
+      → left_for p filters workload.other_mode found
+      ≡ tcp_chains (unwrap_or (option_map (λ (port : ListedPort). port.mode) found) workload.other_mode)
+      (option_map (λ (port : ListedPort). port.number) found) filters
+  at None = refl
+  at (Some q) = refl

@@ -5,7 +5,7 @@ ghost use Rattle.chain_build.specs.Buildable.{IsBuildable};
 ghost use Rattle.manifest_json.specs.Document.{bundle_in, is_list};
 ghost use Rattle.mesh_doc.specs.Faults.{Reads};
 ghost use Rattle.mesh_policy.specs.Workload.{workload_of};
-ghost use Rattle.mesh_policy.specs.declared.pod.Pod.{Pod};
+ghost use Rattle.mesh_policy.specs.declared.pod.Pod.{Pod as Selected};
 ghost use Rattle.kept_back.specs.Manifests as meant;
 
 use crate::fields::text_at;
@@ -20,11 +20,19 @@ const LIST: &str = "List";
 
 const ITEMS: &str = "items";
 
-/// The first place, in reading order, that no listener is built for yet; None where one is built for every Pod of the
-/// document. It is asked of a document without fault, and tells only want of memory for the place as an error.
-#[tactic(auto, unfolding(crate::specs::Manifests::not_yet))]
+/// The first place, in reading order, that no listener is built for yet. None where one is built for every Pod of the
+/// manifests. It is asked of a document without fault. Memory for the place is the one error.
 pub fn not_yet(alloc: Global, document: &Value) -> Result<Option<Place>, Memory>
     ensures place { IfOk result (λ place. place ≡ meant.not_yet (view document.now)) }
+    ensures buildable { IfOk result (λ place. place ≡ None → (pod : Selected)
+        → IsBuildable (workload_of (bundle_in (view document.now)) pod)) }
+{
+    first_place(alloc, document)
+}
+
+#[tactic(auto, unfolding(crate::specs::Manifests::not_yet))]
+fn first_place(alloc: Global, document: &Value) -> Result<Option<Place>, Memory>
+    ensures { IfOk result (λ place. place ≡ meant.not_yet (view document.now)) }
 {
     match read_document(alloc, document, &Spot::of(&List::new(alloc))) {
         Ok(()) => Ok(None),

@@ -4,15 +4,20 @@ use Rattle.std.specs.Prelude.{◌≡◌, ℕ, Bool, All, IsTrue, List, [], ◌�
 use Rattle.std.specs.List.{enumerate_from, list_all}
 use Rattle.mesh_policy.specs.AcceptedBundle.{AcceptedItems, same_policy}
 use Rattle.mesh_policy.specs.AcceptedRules.{AcceptedPolicy}
+use Rattle.mesh_policy.specs.Attributes.{Seen}
 use Rattle.mesh_policy.specs.Explanation.{rule_name}
 use Rattle.mesh_policy.specs.Lists.{in_order}
+use Rattle.mesh_policy.specs.Verdicts.{some_holds}
+use Rattle.mesh_policy.specs.declared.case.Case.{Case}
 use Rattle.mesh_policy.specs.declared.policy.Action.{Action}
 use Rattle.mesh_policy.specs.declared.policy.Action.TheVariants.{Allow, Deny, Audit, Custom}
 use Rattle.mesh_policy.specs.declared.policy.AuthorizationPolicy.{AuthorizationPolicy}
 use Rattle.mesh_policy.specs.declared.policy.Rule.{Rule}
+use Rattle.mesh_policy.specs.declared.service.Protocol.TheVariants.{Tcp}
 use Rattle.mesh_tree.specs.Tree.{tree_of}
 use Rattle.mesh_tree.specs.declared.tree.Node.TheVariants as Node
 use Rattle.mesh_tree.specs.declared.tree.Tree.{Tree}
+use Rattle.envoy_types.specs.Access.{action_marks, action_passes, rbac_marks, rbac_passes}
 use Rattle.envoy_types.specs.Order.{is_below}
 use Rattle.envoy_types.specs.declared.access.Rbac.{Rbac}
 use Rattle.envoy_types.specs.declared.access.RbacAction.{RbacAction}
@@ -71,3 +76,13 @@ tcp_rbac action policies = record {
   shadow = None;
   shadow_prefix = [];
 }
+
+-- ---- what it decides
+
+-- The filter lets a TCP connection pass, and marks it, as its action does where some rule of the policies holds, whatever is seen
+-- of the peer.
+pub record DecidesTcp (filter : Rbac) (action : Action) (policies : List AuthorizationPolicy) : Type 0 where
+  pub passes : (case : Case) (seen : Seen)
+      → rbac_passes filter.rules case seen ≡ action_passes (rbac_action action) (some_holds Tcp case seen policies)
+  pub marks : (case : Case) (seen : Seen)
+      → rbac_marks filter.rules case seen ≡ action_marks (rbac_action action) (some_holds Tcp case seen policies)

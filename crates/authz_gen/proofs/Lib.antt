@@ -1,0 +1,6 @@
+pub mod Apart
+pub mod Decided
+pub mod InOrder
+pub mod Names
+pub mod RuleHolds
+pub mod TreeHolds

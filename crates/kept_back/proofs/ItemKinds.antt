@@ -1,11 +1,10 @@
 -- Of the table of kinds, what says whether a listener is built for an item.
-use Rattle.std.proofs.Common.{◌≡◌, ℕ, Bool, true, false, cond, List, Option, Some, None, refl}
+use Rattle.std.proofs.Common.{◌≡◌, ℕ, Bool, true, false, cond, List, Some, None, refl}
 use Rattle.std.specs.Str.{bytes_eq}
 use Rattle.serde_json.specs.Data.{Data}
 use Rattle.mesh_doc.specs.Faults.{none}
 use Rattle.mesh_doc.specs.Places.{Steps}
 use Rattle.manifest_json.specs.KindTable.{core_kind, is_policy_version, kind_of, policy_kind}
-use Rattle.manifest_json.specs.declared.key.Kind.{Kind}
 use Rattle.manifest_json.specs.declared.key.Kind.TheVariants as kind
 use Rattle.kept_back.specs.Items.{kind_kept}
 use Rattle.kept_back.specs.declared.items.TheConstants.{CORE_V1}

@@ -4,3 +4,5 @@ pub mod InOrder
 pub mod Names
 pub mod RuleHolds
 pub mod TreeHolds
+pub mod TreePrintable
+pub mod Widths

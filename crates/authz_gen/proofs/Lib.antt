@@ -2,6 +2,7 @@ pub mod Apart
 pub mod Decided
 pub mod InOrder
 pub mod Names
+pub mod Printable
 pub mod RuleHolds
 pub mod TreeHolds
 pub mod TreePrintable

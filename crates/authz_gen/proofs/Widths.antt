@@ -52,10 +52,6 @@ module _ {L : Type 0} where
   unfolding out-Node denote.Hole.Carrier.out
   opened-Leaf leaf = refl
 
-  opened-Any : out-Node L Node.Any ≡ Node-F.Any
-  unfolding out-Node denote.Hole.Carrier.out
-  opened-Any = refl
-
   -- ---- widths
 
   pub or_width-Or : (parts : List (Tree L)) → or_width (tree_of (Node.Or parts)) ≡ length parts
@@ -73,12 +69,6 @@ module _ {L : Type 0} where
   pub or_width-Leaf : (leaf : L) → or_width (tree_of (Node.Leaf leaf)) ≡ 1
   or_width-Leaf leaf =
       opened-as (λ x. length (or_entries_at (tree_of (Node.Leaf leaf)) x)) (Node.Leaf leaf) (Node-F.Leaf leaf) (opened-Leaf leaf)
-
-  abbrev any : Tree L
-  any = tree_of Node.Any
-
-  pub or_width-Any : or_width any ≡ 1
-  or_width-Any = opened-as (λ x. length (or_entries_at any x)) Node.Any Node-F.Any opened-Any
 
   and_width-Or : (parts : List (Tree L)) → and_width (tree_of (Node.Or parts)) ≡ 1
   and_width-Or parts =
@@ -103,3 +93,13 @@ module _ {L : Type 0} where
   and_width-or [] some each = absurd (omega (arith, some))
   and_width-or (t ∷ []) some each = eqb-true (and_width t) 1 (and_parts _ _ each).0
   and_width-or (t ∷ u ∷ ts) some each = and_width-Or (flat_map or_entries (t ∷ u ∷ ts))
+
+abbrev any : (L : Type 0) → Tree L
+any L = tree_of Node.Any
+
+opened-Any : (L : Type 0) → out-Node L Node.Any ≡ Node-F.Any
+unfolding out-Node denote.Hole.Carrier.out
+opened-Any L = refl
+
+pub or_width-Any : (L : Type 0) → or_width (any L) ≡ 1
+or_width-Any L = opened-as (λ x. length (or_entries_at (any L) x)) Node.Any Node-F.Any (opened-Any L)

@@ -1,0 +1,124 @@
+-- The filter of policies within the limits of a workload can be written.
+use Rattle.std.proofs.Common.{◌≡◌, ℕ, ◌==◌, ◌+◌, ◌<◌, ◌≤◌, Bool, true, false, ◌&&◌, All, IsTrue, List, [], ◌∷◌, ◌++◌, length, map, suc, cond, refl, sym, ◌∙◌, ap, ap₂, subst, arith, length-append}
+use Rattle.std.proofs.Math.Bool.{and-true}
+use Rattle.std.proofs.Math.Dec.{eqb-suc-zero}
+use Rattle.std.proofs.lemmas.Bool.{and_from, and_parts, le-leb, leb-true}
+use Rattle.std.proofs.lemmas.List.{length-map}
+use Rattle.std.proofs.lemmas.List.Elements.{All-head, All-tail}
+use Rattle.std.proofs.lemmas.List.Folds.{list_all-append}
+use Rattle.std.specs.List.{enumerate_from, flat_map, list_all}
+use Rattle.mesh_policy.specs.AcceptedRules.{AcceptedOperation, AcceptedPolicy, AcceptedRule}
+use Rattle.mesh_policy.specs.Lists.{total}
+use Rattle.mesh_policy.specs.Sizes.{operation_size, policy_size, rule_size}
+use Rattle.mesh_policy.specs.Sizes as sizes
+use Rattle.mesh_policy.specs.Values.{is_port}
+use Rattle.mesh_policy.specs.declared.policy.AuthorizationPolicy.{AuthorizationPolicy}
+use Rattle.mesh_policy.specs.declared.policy.OperationSpec.{OperationSpec}
+use Rattle.mesh_policy.specs.declared.policy.Rule.{Rule}
+use Rattle.mesh_tree.specs.Joined.{and_entries, and_of, or_of}
+use Rattle.mesh_tree.specs.Tree.{tree_of}
+use Rattle.mesh_tree.specs.declared.tree.Node.TheVariants as Node
+use Rattle.mesh_tree.specs.declared.tree.Tree.{Tree}
+use Rattle.envoy_types.specs.PermissionForms.{permission_form, permission_leaf_is_printable}
+use Rattle.envoy_types.specs.declared.permission.PermissionLeaf.{PermissionLeaf}
+use Rattle.envoy_types.specs.declared.permission.PermissionLeaf.TheVariants.{DestinationPort}
+use Rattle.authz_gen.specs.Lists.{all_of, field_of, if_any, none_of}
+use Rattle.authz_gen.specs.Operations.{operation_tcp, permission_tcp, port_tree}
+use Rattle.authz_gen.proofs.TreePrintable.{printable, printable-Any, printable-Leaf, printable-Not, printable-and_of, printable-or_of}
+use Rattle.authz_gen.proofs.Widths.{and_width, and_width-Leaf, and_width-Not, and_width-or, or_width, or_width-And, or_width-Any, or_width-Leaf, or_width-Not, or_width-joined}
+
+some : {A : Type 0} (x : A) (xs : List A) → 0 < length (x ∷ xs)
+some x xs = omega arith
+
+abbrev fits : Tree PermissionLeaf → Bool
+fits tree = printable permission_form tree
+
+-- ---- ports
+
+port-fits : (port : ℕ) → is_port port ≡ true → fits (port_tree port) ≡ true
+unfolding permission_leaf_is_printable
+port-fits port h =
+    printable-Leaf permission_form (DestinationPort port)
+    ∙ and_from _ _ (le-leb 0 port (omega arith)) (and_parts _ _ h).1
+
+ports-fit : (ports : List ℕ) → All (λ port. IsTrue (is_port port)) ports → list_all fits (map port_tree ports) ≡ true
+ports-fit [] h = refl
+ports-fit (port ∷ ports) h =
+    and_from _ _ (port-fits port (All-head (λ (p : ℕ). IsTrue (is_port p)) port ports h))
+    (ports-fit ports (All-tail (λ (p : ℕ). IsTrue (is_port p)) port ports h))
+
+ports-or_width : (ports : List ℕ) → total or_width (map port_tree ports) ≡ length ports
+ports-or_width [] = refl
+ports-or_width (port ∷ ports) =
+    let first : or_width (port_tree port) ≡ 1 = or_width-Leaf (DestinationPort port) in
+    let rest = ports-or_width ports in
+    omega (arith, first, rest)
+
+ports-and_width : (ports : List ℕ) → list_all (λ t. and_width t == 1) (map port_tree ports) ≡ true
+ports-and_width [] = refl
+ports-and_width (port ∷ ports) = and_from _ _ (ap (λ n. n == 1) (and_width-Leaf (DestinationPort port))) (ports-and_width ports)
+
+one-port : (port : ℕ) (ports : List ℕ) → All (λ p. IsTrue (is_port p)) (port ∷ ports) → length (port ∷ ports) ≤ 2048
+    → fits (or_of (map port_tree (port ∷ ports))) ≡ true
+one-port port ports h few =
+    let width = ports-or_width (port ∷ ports) in
+    printable-or_of permission_form (map port_tree (port ∷ ports)) (omega arith) (ports-fit (port ∷ ports) h) (omega (arith, few, width))
+
+-- ---- operations
+
+abbrev ports_of : OperationSpec → List (Tree PermissionLeaf)
+ports_of o = field_of (map port_tree o.ports) (map port_tree o.not_ports)
+
+abbrev ArePorts : List ℕ → Type 0
+ArePorts ports = All (λ port. IsTrue (is_port port)) ports
+
+if_any-some : (join : List (Tree PermissionLeaf) → Tree PermissionLeaf) (t : Tree PermissionLeaf) (ts : List (Tree PermissionLeaf))
+    → if_any join (t ∷ ts) ≡ join (t ∷ ts) ∷ []
+if_any-some join t ts = ap (λ b. cond b [] (join (t ∷ ts) ∷ [])) (eqb-suc-zero (length ts))
+
+all_of-some : (t : Tree PermissionLeaf) (ts : List (Tree PermissionLeaf)) → all_of (t ∷ ts) ≡ and_of (t ∷ ts)
+all_of-some t ts = ap (λ b. cond b (tree_of Node.Any) (and_of (t ∷ ts))) (eqb-suc-zero (length ts))
+
+-- what the operation of these ports is, by which of them are written
+operation-at : (vs ns : List ℕ) → ArePorts vs → ArePorts ns → length vs ≤ 2048 → length ns ≤ 2048
+    → (fits (all_of (field_of (map port_tree vs) (map port_tree ns))) ≡ true)
+    × (or_width (all_of (field_of (map port_tree vs) (map port_tree ns))) ≤ 1 + length vs)
+operation-at [] [] hv hn fv fn = (printable-Any permission_form, omega (arith, or_width-Any PermissionLeaf))
+operation-at (v ∷ vs) [] hv hn fv fn =
+    let one = or_of (map port_tree (v ∷ vs)) in
+    let shape : all_of (field_of (map port_tree (v ∷ vs)) []) ≡ one =
+        ap (λ ts. all_of (ts ++ [])) (if_any-some or_of (port_tree v) (map port_tree vs)) ∙ all_of-some one [] in
+    let width : or_width one ≡ total or_width (map port_tree (v ∷ vs)) = or_width-joined (map port_tree (v ∷ vs)) (omega arith) in
+    let ports = ports-or_width (v ∷ vs) in
+    let most : or_width one ≤ 1 + length (v ∷ vs) = omega (arith, width, ports) in
+    (ap fits shape ∙ one-port v vs hv fv, subst (λ t. or_width t ≤ 1 + length (v ∷ vs)) (sym shape) most)
+operation-at [] (n ∷ ns) hv hn fv fn =
+    let none = none_of (map port_tree (n ∷ ns)) in
+    let shape : all_of (field_of [] (map port_tree (n ∷ ns))) ≡ none =
+        ap all_of (if_any-some none_of (port_tree n) (map port_tree ns)) ∙ all_of-some none [] in
+    let most : or_width none ≤ 1 + 0 = omega (arith, or_width-Not (or_of (map port_tree (n ∷ ns)))) in
+    (
+      ap fits shape ∙ printable-Not permission_form (or_of (map port_tree (n ∷ ns))) ∙ one-port n ns hn fn,
+      subst (λ t. or_width t ≤ 1 + 0) (sym shape) most
+    )
+operation-at (v ∷ vs) (n ∷ ns) hv hn fv fn =
+    let one = or_of (map port_tree (v ∷ vs)) in
+    let none = none_of (map port_tree (n ∷ ns)) in
+    let shape : all_of (field_of (map port_tree (v ∷ vs)) (map port_tree (n ∷ ns))) ≡ and_of (one ∷ none ∷ []) =
+        ap₂ (λ ts us. all_of (ts ++ us)) (if_any-some or_of (port_tree v) (map port_tree vs))
+        (if_any-some none_of (port_tree n) (map port_tree ns)) ∙ all_of-some one (none ∷ []) in
+    let first : and_width one ≡ 1 = and_width-or (map port_tree (v ∷ vs)) (omega arith) (ports-and_width (v ∷ vs)) in
+    let second : and_width none ≡ 1 = and_width-Not (or_of (map port_tree (n ∷ ns))) in
+    let fit : list_all fits (one ∷ none ∷ []) ≡ true =
+        and_from _ _ (one-port v vs hv fv)
+        (and_from _ _ (printable-Not permission_form (or_of (map port_tree (n ∷ ns))) ∙ one-port n ns hn fn) refl) in
+    let most : or_width (and_of (one ∷ none ∷ [])) ≤ 1 + length (v ∷ vs) =
+        omega (arith, or_width-And (flat_map and_entries (one ∷ none ∷ []))) in
+    (
+      ap fits shape ∙ printable-and_of permission_form (one ∷ none ∷ []) (omega arith) fit (omega (arith, first, second)),
+      subst (λ t. or_width t ≤ 1 + length (v ∷ vs)) (sym shape) most
+    )
+
+operation-fits : (o : OperationSpec) → AcceptedOperation o → (fits (operation_tcp o) ≡ true) × (or_width (operation_tcp o) ≤ 1 + length o.ports)
+unfolding operation_tcp
+operation-fits o h = operation-at o.ports o.not_ports h.ports.each h.not_ports.each h.ports.few h.not_ports.few

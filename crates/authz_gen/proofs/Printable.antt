@@ -122,3 +122,50 @@ operation-at (v ∷ vs) (n ∷ ns) hv hn fv fn =
 operation-fits : (o : OperationSpec) → AcceptedOperation o → (fits (operation_tcp o) ≡ true) × (or_width (operation_tcp o) ≤ 1 + length o.ports)
 unfolding operation_tcp
 operation-fits o h = operation-at o.ports o.not_ports h.ports.each h.not_ports.each h.ports.few h.not_ports.few
+
+-- ---- rules
+
+abbrev Accepted : OperationSpec → Type 0
+Accepted = AcceptedOperation
+
+operations-fit : (os : List OperationSpec) → All Accepted os → list_all fits (map operation_tcp os) ≡ true
+operations-fit [] h = refl
+operations-fit (o ∷ os) h = and_from _ _ (operation-fits o (All-head Accepted o os h)).0 (operations-fit os (All-tail Accepted o os h))
+
+-- one entry for each operation, and one for each of its values
+operations-width : (os : List OperationSpec) → All Accepted os
+    → total or_width (map operation_tcp os)
+    ≤ (sizes.sum_of (map operation_size os)).entries + (sizes.sum_of (map operation_size os)).values
+operations-width [] h = omega arith
+operations-width (o ∷ os) h =
+    let first : or_width (operation_tcp o) ≤ 1 + length o.ports = (operation-fits o (All-head Accepted o os h)).1 in
+    let rest : total or_width (map operation_tcp os)
+        ≤ (sizes.sum_of (map operation_size os)).entries + (sizes.sum_of (map operation_size os)).values =
+        operations-width os (All-tail Accepted o os h) in
+    let entry : 1 ≤ (operation_size o).entries = omega arith in
+    let values : length o.ports ≤ (operation_size o).values = omega arith in
+    omega (arith, first, rest, entry, values)
+
+-- values and entries within the limits of a workload
+pub record IsSmall (size : sizes.Size) : Type 0 where
+  pub values : size.values ≤ 2048
+  pub entries : size.entries ≤ 1024
+
+permission-at : (os : List OperationSpec) → All Accepted os → IsSmall (sizes.sum_of (map operation_size os))
+    → fits (all_of (if_any or_of (map operation_tcp os))) ≡ true
+permission-at [] h small = printable-Any permission_form
+permission-at (o ∷ os) h small =
+    let one = or_of (map operation_tcp (o ∷ os)) in
+    let shape : all_of (if_any or_of (map operation_tcp (o ∷ os))) ≡ one =
+        ap all_of (if_any-some or_of (operation_tcp o) (map operation_tcp os)) ∙ all_of-some one [] in
+    let width = operations-width (o ∷ os) h in
+    ap fits shape
+    ∙ printable-or_of permission_form (map operation_tcp (o ∷ os)) (omega arith) (operations-fit (o ∷ os) h)
+    (omega (arith, width, small.values, small.entries))
+
+pub permission-fits : (rule : Rule) → AcceptedRule rule → IsSmall (rule_size rule) → fits (permission_tcp rule) ≡ true
+unfolding permission_tcp
+permission-fits rule h small =
+    let part : IsSmall (sizes.sum_of (map operation_size rule.operations)) =
+        record { values = omega (arith, small.values); entries = omega (arith, small.entries) } in
+    permission-at rule.operations h.operations.each part

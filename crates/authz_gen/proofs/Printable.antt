@@ -12,6 +12,7 @@ use Rattle.mesh_policy.specs.Lists.{total}
 use Rattle.mesh_policy.specs.Sizes.{operation_size, policy_size, rule_size}
 use Rattle.mesh_policy.specs.Sizes as sizes
 use Rattle.mesh_policy.specs.Values.{is_port}
+use Rattle.mesh_policy.specs.declared.policy.Action.{Action}
 use Rattle.mesh_policy.specs.declared.policy.AuthorizationPolicy.{AuthorizationPolicy}
 use Rattle.mesh_policy.specs.declared.policy.OperationSpec.{OperationSpec}
 use Rattle.mesh_policy.specs.declared.policy.Rule.{Rule}
@@ -20,10 +21,16 @@ use Rattle.mesh_tree.specs.Tree.{tree_of}
 use Rattle.mesh_tree.specs.declared.tree.Node.TheVariants as Node
 use Rattle.mesh_tree.specs.declared.tree.Tree.{Tree}
 use Rattle.envoy_types.specs.PermissionForms.{permission_form, permission_leaf_is_printable}
+use Rattle.envoy_types.specs.PrincipalForms.{principal_form}
+use Rattle.envoy_types.specs.RbacForms.{policy_is_printable, rbac_is_printable, rules_are_printable}
+use Rattle.envoy_types.specs.TreeForms.{tree_list_is_printable}
 use Rattle.envoy_types.specs.declared.permission.PermissionLeaf.{PermissionLeaf}
 use Rattle.envoy_types.specs.declared.permission.PermissionLeaf.TheVariants.{DestinationPort}
 use Rattle.authz_gen.specs.Lists.{all_of, field_of, if_any, none_of}
 use Rattle.authz_gen.specs.Operations.{operation_tcp, permission_tcp, port_tree}
+use Rattle.authz_gen.specs.Policies.{AreTcpPolicies, name_before, policies_tcp, rule_policies_tcp, rule_policy_tcp, tcp_rbac}
+use Rattle.authz_gen.proofs.Apart.{names-rise}
+use Rattle.authz_gen.proofs.InOrder.{all-in_order}
 use Rattle.authz_gen.proofs.TreePrintable.{printable, printable-Any, printable-Leaf, printable-Not, printable-and_of, printable-or_of}
 use Rattle.authz_gen.proofs.Widths.{and_width, and_width-Leaf, and_width-Not, and_width-or, or_width, or_width-And, or_width-Any, or_width-Leaf, or_width-Not, or_width-joined}
 
@@ -169,3 +176,37 @@ permission-fits rule h small =
     let part : IsSmall (sizes.sum_of (map operation_size rule.operations)) =
         record { values = omega (arith, small.values); entries = omega (arith, small.entries) } in
     permission-at rule.operations h.operations.each part
+
+-- ---- the filter
+
+rule_policy-fits : (policy : AuthorizationPolicy) (index : ℕ) (rule : Rule) → AcceptedRule rule → IsSmall (rule_size rule)
+    → policy_is_printable (rule_policy_tcp policy (index, rule)) ≡ true
+unfolding rule_policy_tcp policy_is_printable tree_list_is_printable
+rule_policy-fits policy index rule h small =
+    and_from _ _ (and_from _ _ refl (and_from _ _ (permission-fits rule h small) refl)) (and_from _ _ refl (and_from _ _ (printable-Any principal_form) refl))
+
+rules-fit : (policy : AuthorizationPolicy) (index : ℕ) (rs : List Rule) → All AcceptedRule rs → IsSmall (sizes.sum_of (map rule_size rs))
+    → list_all policy_is_printable (map (rule_policy_tcp policy) (enumerate_from index rs)) ≡ true
+rules-fit policy index [] h small = refl
+rules-fit policy index (rule ∷ rs) h small =
+    let first : IsSmall (rule_size rule) = record { values = omega (arith, small.values); entries = omega (arith, small.entries) } in
+    let rest : IsSmall (sizes.sum_of (map rule_size rs)) = record { values = omega (arith, small.values); entries = omega (arith, small.entries) } in
+    and_from _ _ (rule_policy-fits policy index rule (All-head AcceptedRule rule rs h) first)
+    (rules-fit policy (index + 1) rs (All-tail AcceptedRule rule rs h) rest)
+
+policies-fit : (ps : List AuthorizationPolicy) → All AcceptedPolicy ps → IsSmall (sizes.sum_of (map policy_size ps))
+    → list_all policy_is_printable (flat_map rule_policies_tcp ps) ≡ true
+policies-fit [] h small = refl
+policies-fit (p ∷ ps) h small =
+    let first : IsSmall (policy_size p) = record { values = omega (arith, small.values); entries = omega (arith, small.entries) } in
+    let rest : IsSmall (sizes.sum_of (map policy_size ps)) = record { values = omega (arith, small.values); entries = omega (arith, small.entries) } in
+    list_all-append policy_is_printable (rule_policies_tcp p) (flat_map rule_policies_tcp ps)
+    ∙ and_from _ _ (rules-fit p 0 p.rules (All-head AcceptedPolicy p ps h).rules.each first)
+    (policies-fit ps (All-tail AcceptedPolicy p ps h) rest)
+
+pub filter-fits : (action : Action) (policies : List AuthorizationPolicy) → AreTcpPolicies action policies
+    → IsSmall (sizes.sum_of (map policy_size policies)) → rbac_is_printable (tcp_rbac action policies) ≡ true
+unfolding tcp_rbac rbac_is_printable rules_are_printable policies_tcp
+filter-fits action policies h small =
+    and_from _ _ (and_from _ _ (names-rise action policies h)
+    (all-in_order name_before policy_is_printable (flat_map rule_policies_tcp policies) ∙ policies-fit policies h.accepted.each small)) refl

@@ -1,8 +1,8 @@
 -- The filter of policies within the limits of a workload can be written.
-use Rattle.std.proofs.Common.{◌≡◌, ℕ, ◌==◌, ◌+◌, ◌<◌, ◌≤◌, Bool, true, false, ◌&&◌, All, IsTrue, List, [], ◌∷◌, ◌++◌, length, map, suc, cond, refl, sym, ◌∙◌, ap, ap₂, subst, arith, length-append}
+use Rattle.std.proofs.Common.{◌≡◌, ℕ, ◌==◌, ◌+◌, ◌<◌, ◌≤◌, Bool, true, false, ◌&&◌, ◌||◌, nat_lt, All, IsTrue, List, [], ◌∷◌, ◌++◌, length, map, suc, cond, refl, sym, ◌∙◌, ap, ap₂, subst, arith, length-append}
 use Rattle.std.proofs.Math.Bool.{and-true}
 use Rattle.std.proofs.Math.Dec.{eqb-suc-zero}
-use Rattle.std.proofs.lemmas.Bool.{and_from, and_parts, le-leb, leb-true}
+use Rattle.std.proofs.lemmas.Bool.{and_from, and_parts, le-leb, ltb-false, or_parts}
 use Rattle.std.proofs.lemmas.List.{length-map}
 use Rattle.std.proofs.lemmas.List.Elements.{All-head, All-tail}
 use Rattle.std.proofs.lemmas.List.Folds.{list_all-append}
@@ -12,6 +12,7 @@ use Rattle.mesh_policy.specs.Lists.{total}
 use Rattle.mesh_policy.specs.Sizes.{operation_size, policy_size, rule_size}
 use Rattle.mesh_policy.specs.Sizes as sizes
 use Rattle.mesh_policy.specs.Values.{is_port}
+use Rattle.mesh_policy.specs.declared.jwt.JwtRule.{JwtRule}
 use Rattle.mesh_policy.specs.declared.policy.Action.{Action}
 use Rattle.mesh_policy.specs.declared.policy.AuthorizationPolicy.{AuthorizationPolicy}
 use Rattle.mesh_policy.specs.declared.policy.OperationSpec.{OperationSpec}
@@ -210,3 +211,15 @@ unfolding tcp_rbac rbac_is_printable rules_are_printable policies_tcp
 filter-fits action policies h small =
     and_from _ _ (and_from _ _ (names-rise action policies h)
     (all-in_order name_before policy_is_printable (flat_map rule_policies_tcp policies) ∙ policies-fit policies h.accepted.each small)) refl
+
+-- what keeps the limits of a workload together keeps them apart
+pub small-part : (ps : List AuthorizationPolicy) (rules : List JwtRule) → sizes.is_over_limit (sizes.size_of ps rules) ≡ false
+    → IsSmall (sizes.sum_of (map policy_size ps))
+unfolding sizes.size_of
+small-part ps rules h =
+    let size = sizes.size_of ps rules in
+    let parts = or_parts (nat_lt 2048 size.values || nat_lt 1024 size.entries) (nat_lt 65536 size.bytes) h in
+    let counts = or_parts (nat_lt 2048 size.values) (nat_lt 1024 size.entries) parts.0 in
+    let values : size.values ≤ 2048 = ltb-false 2048 size.values counts.0 in
+    let entries : size.entries ≤ 1024 = ltb-false 1024 size.entries counts.1 in
+    record { values = omega (arith, values); entries = omega (arith, entries) }

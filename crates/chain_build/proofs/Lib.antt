@@ -4,5 +4,6 @@ pub mod FiltersDecide
 pub mod Modes
 pub mod Numbers
 pub mod Ports
+pub mod Printable
 pub mod Pruned
 pub mod Verdict

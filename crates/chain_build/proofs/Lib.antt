@@ -1,3 +1,4 @@
+pub mod BuiltPrintable
 pub mod Chosen
 pub mod Enforced
 pub mod FiltersDecide

@@ -1,8 +1,10 @@
+pub mod BuiltPrintable
 pub mod Chosen
 pub mod Enforced
 pub mod FiltersDecide
 pub mod Modes
 pub mod Numbers
 pub mod Ports
+pub mod Printable
 pub mod Pruned
 pub mod Verdict

@@ -5,12 +5,11 @@ mod Inputs
 mod Joined
 mod NamesRise
 mod Options
-mod Policies
 mod PortPolicies
+mod Printable
 mod Readings
 mod Reasons
 mod Served
 mod Shallow
-mod Spelled
 mod Trees
 mod Verdict

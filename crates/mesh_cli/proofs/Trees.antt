@@ -1,15 +1,21 @@
--- The trees that are built so far, and the values that are written of them.
-use Rattle.std.proofs.Common.{◌≡◌, ℕ, ◌==◌, Bool, true, ◌∙◌, ap}
+-- The trees that are built so far: what they hold for, what is written of them, and that they can be written.
+use Rattle.std.proofs.Common.{◌≡◌, ℕ, ◌==◌, Bool, true, ◌∙◌}
+use Rattle.serde_json.specs.Data.{Data, boolean}
 use Rattle.mesh_policy.specs.Attributes.{Seen}
 use Rattle.mesh_policy.specs.declared.case.Case.{Case}
 use Rattle.mesh_tree.specs.Judge.{node_holds, tree_holds}
-use Rattle.mesh_tree.specs.Tree.{node_of, tree_of}
-use Rattle.mesh_tree.specs.declared.tree.Node.{Node, fold_out-Node, out-Node}
+use Rattle.mesh_tree.specs.Tree.{tree_of}
+use Rattle.mesh_tree.specs.declared.tree.Node.{fold_out-Node, out-Node}
 use Rattle.mesh_tree.specs.declared.tree.Node.TheVariants.{Any, Leaf}
-use Rattle.mesh_tree.specs.declared.tree.Tree.{fold-roll-Tree, out-roll-Tree}
+use Rattle.mesh_tree.specs.declared.tree.Tree.{fold-roll-Tree}
 use Rattle.envoy_types.specs.Permission as permission
+use Rattle.envoy_types.specs.PermissionForms.{permission_form, permission_leaf_is_printable, permission_leaf_written}
 use Rattle.envoy_types.specs.Principal as principal
-use Rattle.envoy_types.specs.Written as form
+use Rattle.envoy_types.specs.PrincipalForms.{principal_form}
+use Rattle.envoy_types.specs.SmallForms.{is_within}
+use Rattle.envoy_types.specs.TreeForms.{TreeForm, node_is_printable, node_written, tree_is_printable, tree_written}
+use Rattle.envoy_types.specs.WrittenFields.{number_written, sole_field}
+use Rattle.envoy_types.specs.declared.keys.TheConstants.{ANY, DESTINATION_PORT}
 use Rattle.envoy_types.specs.declared.permission.PermissionLeaf.{PermissionLeaf}
 use Rattle.envoy_types.specs.declared.permission.PermissionLeaf.TheVariants.{DestinationPort}
 use Rattle.envoy_types.specs.declared.principal.PrincipalLeaf.{PrincipalLeaf}
@@ -38,15 +44,43 @@ pub anyone-holds : (case : Case) (seen : Seen)
     → tree_holds (λ (leaf : PrincipalLeaf). principal.leaf_holds leaf case seen) anyone ≡ true
 anyone-holds case seen = holds-any (λ (leaf : PrincipalLeaf). principal.leaf_holds leaf case seen)
 
--- the first node of a tree that is made of a node
-node-made : {L : Type 0} (n : Node L) → node_of (tree_of n) ≡ n
-node-made {L} n = ap (λ t. t.node) (out-roll-Tree L (record { node = n }))
+module _ {L : Type 0} (form : TreeForm L) where
+  any-written : tree_written form (tree_of Any) ≡ sole_field ANY.now (boolean true)
+  unfolding out-Node denote.Hole.Carrier.out
+  any-written =
+      fold-roll-Tree L Data Data (node_written form) (λ t. t.node) (record { node = Any })
+      ∙ fold_out-Node L Data Data (node_written form) (λ t. t.node) Any
+
+  leaf-written : (l : L) → tree_written form (tree_of (Leaf l)) ≡ form.leaf_written l
+  unfolding out-Node denote.Hole.Carrier.out
+  leaf-written l =
+      fold-roll-Tree L Data Data (node_written form) (λ t. t.node) (record { node = Leaf l })
+      ∙ fold_out-Node L Data Data (node_written form) (λ t. t.node) (Leaf l)
+
+  any-printable : tree_is_printable form (tree_of Any) ≡ true
+  unfolding out-Node denote.Hole.Carrier.out
+  any-printable =
+      fold-roll-Tree L Bool Bool (node_is_printable form) (λ t. t.node) (record { node = Any })
+      ∙ fold_out-Node L Bool Bool (node_is_printable form) (λ t. t.node) Any
+
+  leaf-printable : (l : L) → tree_is_printable form (tree_of (Leaf l)) ≡ form.leaf_is_printable l
+  unfolding out-Node denote.Hole.Carrier.out
+  leaf-printable l =
+      fold-roll-Tree L Bool Bool (node_is_printable form) (λ t. t.node) (record { node = Leaf l })
+      ∙ fold_out-Node L Bool Bool (node_is_printable form) (λ t. t.node) (Leaf l)
 
 -- and so they are written
-pub port-written : (port : ℕ) → form.permission (for_port port) ≡ form.port_value port
-unfolding out-Node denote.Hole.Carrier.out
-port-written port = ap (λ n. form.permission_node (out-Node PermissionLeaf n)) (node-made (Leaf (DestinationPort port)))
+pub port-written : (port : ℕ) → tree_written permission_form (for_port port) ≡ sole_field DESTINATION_PORT.now (number_written port)
+unfolding permission_leaf_written
+port-written port = leaf-written permission_form (DestinationPort port)
 
-pub anyone-written : form.principal anyone ≡ form.any_value
-unfolding out-Node denote.Hole.Carrier.out
-anyone-written = ap (λ n. form.principal_node (out-Node PrincipalLeaf n)) (node-made Any)
+pub anyone-written : tree_written principal_form anyone ≡ sole_field ANY.now (boolean true)
+anyone-written = any-written principal_form
+
+-- which a permission for a port can be where it is one, and everyone is
+pub port-printable : (port : ℕ) → tree_is_printable permission_form (for_port port) ≡ is_within 0 65535 port
+unfolding permission_leaf_is_printable
+port-printable port = leaf-printable permission_form (DestinationPort port)
+
+pub anyone-printable : tree_is_printable principal_form anyone ≡ true
+anyone-printable = any-printable principal_form

@@ -5,9 +5,8 @@ use Rattle.std.specs.Prelude.{ℕ, Bool, true, ◌&&◌, List, [], ◌∷◌, Op
 use Rattle.serde_json.specs.Data.{Data, Items, no_items, item}
 use Rattle.serde_json.specs.Find.{get, as_str, as_array, as_object}
 use Rattle.mesh_policy.specs.declared.bundle.Bundle.{Bundle}
-use Rattle.envoy_types.specs.Fields.{has_only, has, passes, says, is_sole}
 use Rattle.mesh_cli.specs.Buildable.{is_buildable}
-use Rattle.mesh_cli.specs.Fields.{is_kind}
+use Rattle.mesh_cli.specs.Fields.{has, has_only, is_kind, is_sole, passes, says}
 use Rattle.mesh_cli.specs.declared.refusal.Spot.{Spot}
 use Rattle.mesh_cli.specs.declared.refusal.Spot.TheVariants.{Document, FirstItem, SecondItem}
 

@@ -9,8 +9,8 @@ use Rattle.mesh_policy.specs.SelectFault.{pod_named, select_fault}
 use Rattle.mesh_policy.specs.Verdicts.{verdict_of}
 use Rattle.mesh_policy.specs.Workload.{Workload, workload_of}
 use Rattle.envoy_types.specs.declared.chains.Listener.{Listener}
+use Rattle.envoy_types.specs.ListenerForms.{Spells}
 use Rattle.envoy_types.specs.ListenerVerdict.{envoy_verdict}
-use Rattle.envoy_types.specs.Spells.{Spells}
 use Rattle.mesh_cli.specs.declared.words.Command.{Command}
 use Rattle.mesh_cli.specs.declared.words.Command.TheVariants.{Translate}
 use Rattle.mesh_cli.specs.Answer.{document_of}

@@ -21,5 +21,5 @@ pub use Rattle.mesh_policy.specs.SelectFault
 pub use Rattle.mesh_policy.specs.Verdicts
 pub use Rattle.mesh_policy.specs.Workload
 pub use Rattle.manifest_json.specs.Document
+pub use Rattle.envoy_types.specs.ListenerForms
 pub use Rattle.envoy_types.specs.ListenerVerdict
-pub use Rattle.envoy_types.specs.Spells

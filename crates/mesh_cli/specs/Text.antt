@@ -2,9 +2,9 @@
 use Rattle.std.specs.Prelude.{ℕ, List}
 use Rattle.serde_json.specs.Written.{compact_text}
 use Rattle.mesh_policy.specs.Workload.{Workload}
-use Rattle.envoy_types.specs.Written.{written}
+use Rattle.envoy_types.specs.ListenerForms.{listener_written}
 use Rattle.mesh_cli.specs.Build.{built}
 
 -- compact JSON
 unfoldable pub listener_text : Workload → List ℕ
-listener_text workload = compact_text (written (built workload))
+listener_text workload = compact_text (listener_written (built workload))

@@ -4,8 +4,7 @@ ghost use Rattle.std.specs.List.{list_any};
 ghost use Rattle.std.specs.Str.{bytes_eq};
 ghost use Rattle.serde_json.specs.Find.{get, as_array};
 ghost use Rattle.serde_json.specs.View.{view, items_view, members_view};
-ghost use Rattle.envoy_types.specs.Fields as field;
-ghost use Rattle.mesh_cli.specs.Fields.{is_kind};
+ghost use Rattle.mesh_cli.specs.Fields as field;
 
 use serde_json::{Map, Value};
 
@@ -62,7 +61,7 @@ fn is_text(value: &Value, text: &str) -> bool
 
 /// Whether the item is of that version and kind.
 pub fn is_kind(item: &Value, version: &str, kind: &str) -> bool
-    ensures { result ≡ is_kind version.now kind.now (view item.now) }
+    ensures { result ≡ field.is_kind version.now kind.now (view item.now) }
 {
     says(item, "apiVersion", version) && says(item, "kind", kind)
 }

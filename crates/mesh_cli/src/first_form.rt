@@ -1,8 +1,8 @@
 // The form of the documents that a listener is built for so far, by the JSON as it stands.
 ghost use Rattle.std.specs.Prelude.{◌≡◌, None, codes, IsTrue};
-ghost use Rattle.envoy_types.specs.Fields as field;
 ghost use Rattle.serde_json.specs.View.{view, items_view};
 ghost use Rattle.mesh_cli.specs.Buildable.{is_buildable};
+ghost use Rattle.mesh_cli.specs.Fields as field;
 ghost use Rattle.mesh_cli.specs.FirstForm as form;
 
 use crate::buildable::is_buildable;

@@ -11,8 +11,6 @@ mod first_form;
 mod notes;
 mod pieces;
 mod pod_name;
-mod print;
-mod print_filters;
 mod program;
 mod refusal;
 mod selection;

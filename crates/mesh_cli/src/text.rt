@@ -5,7 +5,8 @@ ghost use Rattle.mesh_cli.specs.Headline.{Enforces};
 ghost use Rattle.mesh_cli.specs.Text as told;
 
 use crate::build::build;
-use crate::print::listener_value;
+use envoy_types::written_spells;
+use listener_json::to_value;
 use mesh_policy::port_policies;
 use mesh_select::Workload;
 use mesh_text::Memory;
@@ -18,8 +19,9 @@ pub fn listener_text(alloc: Global, workload: &Workload) -> Result<String, Memor
     ensures enforces { IfOk result (λ s. Enforces workload.now (string_bytes s)) }
 {
     port_policies();
+    written_spells();
     let listener = build(alloc, workload)?;
-    let value = listener_value(alloc, &listener)?;
+    let value = to_value(alloc, &listener)?;
     let text = value.to_string(alloc)?;
     let _bytes = text.as_str();
     Ok(text)

@@ -1,7 +1,7 @@
 -- The answer is that for the keys left.
 use Rattle.std.proofs.Common.{◌≡◌, map}
 use Rattle.serde_json.specs.View.{members_view}
-use Rattle.envoy_types.specs.Fields as field
+use Rattle.mesh_cli.specs.Fields as field
 use Rattle.mesh_cli.proofs.fields.are_known.Given as goal
 
 abbrev pub invariant-loop-key : goal.invariant-loop-key

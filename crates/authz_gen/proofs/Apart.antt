@@ -1,0 +1,139 @@
+-- No two policies of a filter have one name, so they stand in strict byte order.
+use Rattle.std.proofs.Common.{◌≡◌, ℕ, ◌+◌, ◌<◌, ◌≤◌, ◌^◌, Bool, true, false, not, ◌&&◌, All, AllPairs, List, [], ◌∷◌, ◌++◌, decimal, get_or, length, map, suc, refl, sym, ◌∙◌, ap, arith}
+use Rattle.std.proofs.lemmas.Bool.{and_from, and_parts}
+use Rattle.std.proofs.lemmas.Fmt.{decimal_injective}
+use Rattle.std.proofs.lemmas.List.Elements.{All-head, All-tail}
+use Rattle.std.proofs.lemmas.List.Folds.{list_all-append}
+use Rattle.std.proofs.lemmas.Slice.Eq.{bytes_eq-Decides}
+use Rattle.std.specs.List.{enumerate_from, flat_map, list_all}
+use Rattle.std.specs.Str.{bytes_eq}
+use Rattle.mesh_policy.specs.AcceptedBundle.{same_policy}
+use Rattle.mesh_policy.specs.Explanation.{action_front, rule_name}
+use Rattle.mesh_policy.specs.declared.policy.Action.{Action}
+use Rattle.mesh_policy.specs.declared.policy.AuthorizationPolicy.{AuthorizationPolicy}
+use Rattle.mesh_policy.specs.declared.policy.Rule.{Rule}
+use Rattle.envoy_types.specs.Order.{names_rise}
+use Rattle.envoy_types.specs.declared.access.RbacPolicy.{RbacPolicy}
+use Rattle.authz_gen.specs.Policies.{AreTcpPolicies, policies_tcp, rule_policies_tcp, rule_policy_tcp}
+use Rattle.authz_gen.proofs.InOrder.{are_apart, is_apart, rises-in_order}
+use Rattle.authz_gen.proofs.Names.{is_plain, named, plain-label, plain-subdomain, same-parts}
+
+abbrev name_of : RbacPolicy → List ℕ
+name_of policy = policy.name
+
+abbrev Apart : RbacPolicy → RbacPolicy → Bool
+Apart = is_apart name_of
+
+-- what the names of a policy's rules need
+pub record IsNamed (action : Action) (policy : AuthorizationPolicy) : Type 0 where
+  pub action_is : policy.action ≡ action
+  pub namespace : is_plain policy.namespace ≡ true
+  pub name : is_plain policy.name ≡ true
+  pub few : length policy.rules ≤ 2048
+
+pub all-named : (action : Action) (policies : List AuthorizationPolicy) → AreTcpPolicies action policies → All (IsNamed action) policies
+all-named action policies h = λ k d within. record {
+  action_is = h.actions k d within;
+  namespace = plain-label (get_or policies k d).namespace (h.accepted.each k d within).namespace;
+  name = plain-subdomain (get_or policies k d).name (h.accepted.each k d within).name;
+  few = (h.accepted.each k d within).rules.few;
+}
+
+unequal : (a b : List ℕ) → (a ≡ b → ⊥) → not (bytes_eq a b) ≡ true
+unequal a b h = at (bytes_eq a b) refl where
+  at : (c : Bool) → bytes_eq a b ≡ c → not c ≡ true
+  at true e = absurd (h ((bytes_eq-Decides a b).0 e))
+  at false e = refl
+
+name-is : (action : Action) (policy : AuthorizationPolicy) (index : ℕ) → policy.action ≡ action
+    → rule_name policy index ≡ named (action_front action) policy.namespace policy.name (decimal index)
+name-is action policy index e = ap (λ a. named (action_front a) policy.namespace policy.name (decimal index)) e
+
+module _ (action : Action) where
+  -- the parts of two names that are the same
+  same : (p q : AuthorizationPolicy) (i j : ℕ) → IsNamed action p → IsNamed action q → rule_name p i ≡ rule_name q j
+      → (p.namespace ≡ q.namespace) × (p.name ≡ q.name) × (decimal i ≡ decimal j)
+  same p q i j hp hq e =
+      same-parts (action_front action) p.namespace p.name (decimal i) q.namespace q.name (decimal j)
+      hp.namespace hp.name hq.namespace hq.name (sym (name-is action p i hp.action_is) ∙ e ∙ name-is action q j hq.action_is)
+
+  -- ---- rules of one policy
+
+  index-apart : (p : AuthorizationPolicy) (i j : ℕ) (r s : Rule) → IsNamed action p → i < j → j < 4096
+      → Apart (rule_policy_tcp p (i, r)) (rule_policy_tcp p (j, s)) ≡ true
+  unfolding rule_policy_tcp
+  index-apart p i j r s h below few =
+      unequal (rule_name p i) (rule_name p j)
+      (λ e. let number : i ≡ j = decimal_injective i j (omega arith) (omega arith) (same p p i j h h e).2 in omega (arith, number))
+
+  later-apart : (p : AuthorizationPolicy) (i : ℕ) (r : Rule) (k : ℕ) (rs : List Rule) → IsNamed action p → i < k → k + length rs ≤ 4096
+      → list_all (Apart (rule_policy_tcp p (i, r))) (map (rule_policy_tcp p) (enumerate_from k rs)) ≡ true
+  later-apart p i r k [] h below few = refl
+  later-apart p i r k (s ∷ rs) h below few =
+      and_from _ _ (index-apart p i k r s h below (omega arith)) (later-apart p i r (k + 1) rs h (omega arith) (omega arith))
+
+  own-apart : (p : AuthorizationPolicy) (k : ℕ) (rs : List Rule) → IsNamed action p → k + length rs ≤ 4096
+      → are_apart name_of (map (rule_policy_tcp p) (enumerate_from k rs)) ≡ true
+  own-apart p k [] h few = refl
+  own-apart p k (r ∷ rs) h few = and_from _ _ (later-apart p k r (k + 1) rs h (omega arith) (omega arith)) (own-apart p (k + 1) rs h (omega arith))
+
+  -- ---- rules of two policies
+
+  same_names : (p q : AuthorizationPolicy) → p.namespace ≡ q.namespace → p.name ≡ q.name → same_policy p q ≡ true
+  same_names p q e f = and_from _ _ ((bytes_eq-Decides _ _).1 e) ((bytes_eq-Decides _ _).1 f)
+
+  policy-apart : (p q : AuthorizationPolicy) (i j : ℕ) (r s : Rule) → IsNamed action p → IsNamed action q → same_policy p q ≡ false
+      → Apart (rule_policy_tcp p (i, r)) (rule_policy_tcp q (j, s)) ≡ true
+  unfolding rule_policy_tcp
+  policy-apart p q i j r s hp hq other =
+      unequal (rule_name p i) (rule_name q j)
+      (λ e. let parts = same p q i j hp hq e in let both : false ≡ true = sym other ∙ same_names p q parts.0 parts.1 in cc)
+
+  rules-apart : (p q : AuthorizationPolicy) (i : ℕ) (r : Rule) (k : ℕ) (rs : List Rule) → IsNamed action p → IsNamed action q
+      → same_policy p q ≡ false → list_all (Apart (rule_policy_tcp p (i, r))) (map (rule_policy_tcp q) (enumerate_from k rs)) ≡ true
+  rules-apart p q i r k [] hp hq other = refl
+  rules-apart p q i r k (s ∷ rs) hp hq other =
+      and_from _ _ (policy-apart p q i k r s hp hq other) (rules-apart p q i r (k + 1) rs hp hq other)
+
+  abbrev IsOther : AuthorizationPolicy → AuthorizationPolicy → Type 0
+  IsOther p q = same_policy p q ≡ false
+
+  all-apart : (p : AuthorizationPolicy) (i : ℕ) (r : Rule) (qs : List AuthorizationPolicy) → IsNamed action p → All (IsNamed action) qs
+      → All (IsOther p) qs → list_all (Apart (rule_policy_tcp p (i, r))) (flat_map rule_policies_tcp qs) ≡ true
+  all-apart p i r [] hp hq other = refl
+  all-apart p i r (q ∷ qs) hp hq other =
+      list_all-append (Apart (rule_policy_tcp p (i, r))) (rule_policies_tcp q) (flat_map rule_policies_tcp qs)
+      ∙ and_from _ _ (rules-apart p q i r 0 q.rules hp (All-head (IsNamed action) q qs hq) (All-head (IsOther p) q qs other))
+      (all-apart p i r qs hp (All-tail (IsNamed action) q qs hq) (All-tail (IsOther p) q qs other))
+
+  -- ---- all rules
+
+  joined : (p : AuthorizationPolicy) (k : ℕ) (rs : List Rule) (others : List RbacPolicy)
+      → ((i : ℕ) (r : Rule) → list_all (Apart (rule_policy_tcp p (i, r))) others ≡ true)
+      → are_apart name_of (map (rule_policy_tcp p) (enumerate_from k rs)) ≡ true → are_apart name_of others ≡ true
+      → are_apart name_of (map (rule_policy_tcp p) (enumerate_from k rs) ++ others) ≡ true
+  joined p k [] others each own rest = rest
+  joined p k (r ∷ rs) others each own rest =
+      let first = rule_policy_tcp p (k, r) in
+      let later = map (rule_policy_tcp p) (enumerate_from (k + 1) rs) in
+      let parts = and_parts (list_all (Apart first) later) (are_apart name_of later) own in
+      and_from _ _ (list_all-append (Apart first) later others ∙ and_from _ _ parts.0 (each k r))
+      (joined p (k + 1) rs others each parts.1 rest)
+
+  pub names-apart : (ps : List AuthorizationPolicy) → All (IsNamed action) ps → AllPairs IsOther ps
+      → are_apart name_of (flat_map rule_policies_tcp ps) ≡ true
+  names-apart [] h other = refl
+  names-apart (p ∷ ps) h other =
+      let here = All-head (IsNamed action) p ps h in
+      let later = All-tail (IsNamed action) p ps h in
+      let others : All (IsOther p) ps = λ k d within. other 0 (suc k) d (omega arith) (omega arith) in
+      let pairs : AllPairs IsOther ps = λ i j d before within. other (suc i) (suc j) d (omega arith) (omega arith) in
+      joined p 0 p.rules (flat_map rule_policies_tcp ps) (λ i r. all-apart p i r ps here later others)
+      (own-apart p 0 p.rules here (omega (arith, here.few))) (names-apart ps later pairs)
+
+pub names-rise : (action : Action) (policies : List AuthorizationPolicy) → AreTcpPolicies action policies
+    → names_rise (λ policy. policy.name) (policies_tcp policies) ≡ true
+unfolding policies_tcp
+names-rise action policies h =
+    rises-in_order name_of (flat_map rule_policies_tcp policies)
+    (names-apart action policies (all-named action policies h) h.accepted.each_once)

@@ -1,0 +1,103 @@
+-- The built listener gives each connection the verdict of the policies.
+use Rattle.std.proofs.Common.{◌≡◌, ℕ, ◌==◌, ◌<◌, Bool, true, false, All, AllPairs, List, [], ◌∷◌, find, Option, Some, None, is_some, cond, unwrap_or, Result, Ok, Err, IfOk, refl, sym, ◌∙◌, ap}
+use Rattle.std.proofs.lemmas.List.Elements.{All-head, All-tail}
+use Rattle.std.specs.Option.{option_map}
+use Rattle.mesh_policy.specs.Connection.{offers_mesh_name, passage}
+use Rattle.mesh_policy.specs.Verdicts as mesh
+use Rattle.mesh_policy.specs.Workload.{ListedPort, Workload, mode_of, protocol_of}
+use Rattle.mesh_policy.specs.declared.case.Case.{Case}
+use Rattle.mesh_policy.specs.declared.case.Tls.{Tls}
+use Rattle.mesh_policy.specs.declared.peer.Mode.{Mode}
+use Rattle.mesh_policy.specs.declared.peer.Mode.TheVariants.{Disable, Permissive, Strict}
+use Rattle.mesh_policy.specs.declared.service.Protocol.{Protocol}
+use Rattle.mesh_policy.specs.declared.service.Protocol.TheVariants.{Tcp}
+use Rattle.mesh_policy.specs.declared.verdict.Verdict.{Verdict}
+use Rattle.mesh_text.specs.declared.memory.Memory.{Memory}
+use Rattle.envoy_types.specs.declared.chains.Listener.{Listener}
+use Rattle.envoy_types.specs.ListenerVerdict.{envoy_verdict, verdict_by}
+use Rattle.chain_build.specs.Buildable.{IsBuildable}
+use Rattle.chain_build.specs.Chains.{tcp_chain}
+use Rattle.chain_build.specs.Filters.{tcp_filters}
+use Rattle.chain_build.specs.Listener.{built}
+use Rattle.chain_build.proofs.Chosen.{chosen-chain, number_at}
+use Rattle.chain_build.proofs.FiltersDecide.{filters-decide}
+use Rattle.chain_build.proofs.Modes.{chain_for}
+
+abbrev IsTcp : ListedPort → Type 0
+IsTcp port = port.protocol ≡ Tcp
+
+found-tcp : (test : ListedPort → Bool) (ports : List ListedPort) → All IsTcp ports
+    → unwrap_or (option_map (λ (port : ListedPort). port.protocol) (find test ports)) Tcp ≡ Tcp
+found-tcp test [] h = refl
+found-tcp test (q ∷ ports) h = at (test q) (found-tcp test ports (All-tail IsTcp q ports h)) where
+  at : (b : Bool) → unwrap_or (option_map (λ (port : ListedPort). port.protocol) (find test ports)) Tcp ≡ Tcp
+      → unwrap_or (option_map (λ (port : ListedPort). port.protocol) (cond b (Some q) (find test ports))) Tcp ≡ Tcp
+  at true inner = All-head IsTcp q ports h
+  at false inner = inner
+
+-- each port is a TCP port
+speaks-tcp : (workload : Workload) → IsBuildable workload → (p : ℕ) → protocol_of workload p ≡ Tcp
+speaks-tcp workload h p = found-tcp (λ port. port.number == p) workload.ports h.protocols
+
+abbrev with_tls : Case → Option Tls → Case
+with_tls c tls = record {
+  source = c.source;
+  remote = c.remote;
+  destination = c.destination;
+  port = c.port;
+  tls = tls;
+  request = c.request;
+  verdicts = c.verdicts;
+  answers = c.answers;
+}
+
+module _ (workload : Workload) (h : IsBuildable workload) (port : Option ℕ) (c : Case) where
+  -- what the policies say of the connection by its mode
+  abbrev said : Mode → Option Tls → Verdict
+  said mode tls = mesh.verdict_by workload (with_tls c tls)
+      (mesh.arrival_on workload (with_tls c tls) Tcp (mesh.known_peer Tcp (passage mode tls)))
+
+  -- what the chain of its mode says
+  abbrev given : Mode → Option Tls → Verdict
+  given mode tls = verdict_by (chain_for port (tcp_filters workload) mode tls) (with_tls c tls)
+
+  strict-agrees : (tls : Tls) (shown : Bool) → is_some tls.peer ≡ shown → given Strict (Some tls) ≡ said Strict (Some tls)
+  unfolding tcp_chain
+  strict-agrees tls true e = rw e (filters-decide (with_tls c (Some tls)) (record { request = false; peer = true; claims = None }) workload h)
+  strict-agrees tls false e = rw e refl
+
+  permissive-agrees : (tls : Tls) (offers shown : Bool) → offers_mesh_name tls ≡ offers → is_some tls.peer ≡ shown
+      → given Permissive (Some tls) ≡ said Permissive (Some tls)
+  unfolding tcp_chain
+  permissive-agrees tls true true o e =
+      rw (o, e) (filters-decide (with_tls c (Some tls)) (record { request = false; peer = true; claims = None }) workload h)
+  permissive-agrees tls true false o e = rw (o, e) refl
+  permissive-agrees tls false shown o e =
+      rw o (filters-decide (with_tls c (Some tls)) (record { request = false; peer = false; claims = None }) workload h)
+
+  agrees-at : (mode : Mode) (tls : Option Tls) → given mode tls ≡ said mode tls
+  unfolding tcp_chain
+  agrees-at Strict None = refl
+  agrees-at Strict (Some tls) = strict-agrees tls (is_some tls.peer) refl
+  agrees-at Permissive None = filters-decide (with_tls c None) (record { request = false; peer = false; claims = None }) workload h
+  agrees-at Permissive (Some tls) = permissive-agrees tls (offers_mesh_name tls) (is_some tls.peer) refl refl
+  agrees-at Disable None = filters-decide (with_tls c None) (record { request = false; peer = false; claims = None }) workload h
+  agrees-at Disable (Some tls) = filters-decide (with_tls c (Some tls)) (record { request = false; peer = false; claims = None }) workload h
+
+-- outcome and audit mark
+pub agree : (workload : Workload) → IsBuildable workload → AllPairs (λ port later. port.number < later.number) workload.ports
+    → (case : Case) → envoy_verdict (built workload) case ≡ mesh.verdict_of workload case
+unfolding envoy_verdict mesh.verdict_of mesh.arrival
+agree workload h rising case =
+    ap (λ chain. verdict_by chain case) (chosen-chain workload case rising)
+    ∙ agrees-at workload h (number_at workload case.port) case (mode_of workload case.port) case.tls
+    ∙ ap (λ protocol. mesh.verdict_by workload case
+    (mesh.arrival_on workload case protocol (mesh.known_peer protocol (passage (mode_of workload case.port) case.tls))))
+    (sym (speaks-tcp workload h case.port))
+
+-- where there was memory
+pub agrees : (workload : Workload) → IsBuildable workload → AllPairs (λ port later. port.number < later.number) workload.ports
+    → (r : Result Listener Memory) → IfOk r (λ listener. listener ≡ built workload)
+    → IfOk r (λ listener. (case : Case) → envoy_verdict listener case ≡ mesh.verdict_of workload case)
+agrees workload h rising (Ok listener) e = λ case. ap (λ l. envoy_verdict l case) e ∙ agree workload h rising case
+agrees workload h rising (Err e) shape = tt

@@ -1,0 +1,4 @@
+pub mod Buildable
+pub mod Chains
+pub mod Filters
+pub mod Listener

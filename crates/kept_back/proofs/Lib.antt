@@ -1,0 +1,4 @@
+pub mod Asked
+pub mod ItemKinds
+pub mod Taken
+pub mod Workloads

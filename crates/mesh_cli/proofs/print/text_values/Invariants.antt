@@ -1,8 +1,0 @@
--- The values are those of the first texts.
-use Rattle.std.proofs.Common.{◌≡◌, map, take}
-use Rattle.serde_json.specs.Data.{string}
-use Rattle.serde_json.specs.View.{view}
-use Rattle.mesh_cli.proofs.print.text_values.Given as goal
-
-abbrev pub invariant-loop-text : goal.invariant-loop-text
-invariant-loop-text l = map view l.values.items ≡ map string (take l.text-index l.texts)

@@ -42,12 +42,11 @@ small-parts : (xs ys : List AuthorizationPolicy) → IsSmall (size (xs ++ ys)) �
 small-parts xs ys small =
     let parts : map policy_size (xs ++ ys) ≡ map policy_size xs ++ map policy_size ys = map-append policy_size xs ys in
     let values : (size (xs ++ ys)).values ≡ (size xs).values + (size ys).values =
-        ap (λ ss. (sum_of ss).values) parts ∙ values-append (map policy_size xs) (map policy_size ys) in
+    ap (λ ss. (sum_of ss).values) parts ∙ values-append (map policy_size xs) (map policy_size ys) in
     let entries : (size (xs ++ ys)).entries ≡ (size xs).entries + (size ys).entries =
-        ap (λ ss. (sum_of ss).entries) parts ∙ entries-append (map policy_size xs) (map policy_size ys) in
-    (
+    ap (λ ss. (sum_of ss).entries) parts ∙ entries-append (map policy_size xs) (map policy_size ys) in (
       record { values = omega (arith, small.values, values); entries = omega (arith, small.entries, entries) },
-      record { values = omega (arith, small.values, values); entries = omega (arith, small.entries, entries) }
+      record { values = omega (arith, small.values, values); entries = omega (arith, small.entries, entries) },
     )
 
 -- ---- filters
@@ -61,7 +60,7 @@ unfolding network_filter_is_printable
 filter-list action [] h small = (omega arith, refl)
 filter-list action (p ∷ ps) h small =
     let one : filters_for action (p ∷ ps) ≡ filter.Rbac (tcp_rbac action (p ∷ ps)) ∷ [] =
-        ap (λ b. cond b [] (filter.Rbac (tcp_rbac action (p ∷ ps)) ∷ [])) (eqb-suc-zero (length ps)) in
+    ap (λ b. cond b [] (filter.Rbac (tcp_rbac action (p ∷ ps)) ∷ [])) (eqb-suc-zero (length ps)) in
     let count : length (filters_for action (p ∷ ps)) ≡ 1 = ap length one in
     (omega (arith, count), ap (list_all network_filter_is_printable) one ∙ and_from _ _ (filter-fits action (p ∷ ps) h small) refl)
 

@@ -62,7 +62,13 @@ fn listed_chains(alloc: Global, workload: &Workload) -> Result<List<FilterChain>
     let mut chains = List::new(alloc);
     let listed = workload.listed();
     for port in listed.iter() {
-        push_chains(alloc, &mut chains, workload, Some(*port), workload.mode(*port))?;
+        push_chains(
+            alloc,
+            &mut chains,
+            workload,
+            Some(*port),
+            workload.mode(*port),
+        )?;
     }
     Ok(chains)
 }

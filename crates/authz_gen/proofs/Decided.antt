@@ -1,5 +1,5 @@
 -- The filter of the policies of an action decides a TCP connection as their rules do.
-use Rattle.std.proofs.Common.{◌≡◌, ℕ, ◌+◌, Bool, true, false, ◌||◌, All, IsTrue, List, [], ◌∷◌, ◌++◌, map, Option, Some, None, is_some, cond, refl, sym, ◌∙◌, ap}
+use Rattle.std.proofs.Common.{◌≡◌, ℕ, ◌+◌, Bool, true, false, ◌||◌, All, IsTrue, List, [], ◌∷◌, map, Option, Some, None, is_some, cond, refl, ◌∙◌, ap}
 use Rattle.std.proofs.lemmas.Bool.{and_parts}
 use Rattle.std.proofs.lemmas.List.Elements.{All-head, All-tail}
 use Rattle.std.proofs.lemmas.List.Folds.{list_any-append}

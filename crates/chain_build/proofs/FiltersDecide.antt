@@ -1,9 +1,7 @@
 -- What the filters of a TCP chain decide is what the policies decide.
-use Rattle.std.proofs.Common.{◌≡◌, ◌==◌, Bool, true, false, not, ◌&&◌, ◌||◌, All, IsTrue, List, [], ◌∷◌, ◌++◌, length, cond, if◌then◌else◌, refl, sym, ◌∙◌, ap, ap₂, append_assoc}
+use Rattle.std.proofs.Common.{◌≡◌, ◌==◌, Bool, true, false, not, ◌&&◌, ◌||◌, List, [], ◌∷◌, ◌++◌, length, cond, if◌then◌else◌, refl, sym, ◌∙◌, ap, ap₂, append_assoc}
 use Rattle.std.proofs.Math.Bool.{or-false}
 use Rattle.std.proofs.Math.Dec.{eqb-suc-zero}
-use Rattle.std.proofs.lemmas.List.{append-nil}
-use Rattle.std.specs.List.{list_all}
 use Rattle.mesh_policy.specs.Attributes.{Seen}
 use Rattle.mesh_policy.specs.Verdicts as mesh
 use Rattle.mesh_policy.specs.Verdicts.{decision, some_holds}
@@ -15,7 +13,7 @@ use Rattle.mesh_policy.specs.declared.policy.AuthorizationPolicy.{AuthorizationP
 use Rattle.mesh_policy.specs.declared.service.Protocol.TheVariants as protocol
 use Rattle.mesh_policy.specs.declared.verdict.Outcome.TheVariants.{Admitted, Closed}
 use Rattle.envoy_types.specs.Access.{action_marks, action_passes}
-use Rattle.envoy_types.specs.ListenerVerdict.{start, verdict_of}
+use Rattle.envoy_types.specs.ListenerVerdict.{verdict_of}
 use Rattle.envoy_types.specs.Run.{RunState, Step, goes_on, refuses, run_filters, run_network, then_run}
 use Rattle.envoy_types.specs.declared.chains.NetworkFilter.{NetworkFilter}
 use Rattle.envoy_types.specs.declared.chains.NetworkFilter.TheVariants as filter

@@ -1,7 +1,6 @@
 -- Of the chains of a port the one that its mode has for the connection is left first.
-use Rattle.std.proofs.Common.{◌≡◌, ℕ, Bool, true, false, ◌||◌, List, [], ◌∷◌, find, Option, Some, None, codes, cond, if◌then◌else◌, refl, sym, ◌∙◌, ap}
+use Rattle.std.proofs.Common.{◌≡◌, ℕ, Bool, true, false, List, [], ◌∷◌, Option, Some, None, codes, if◌then◌else◌, refl}
 use Rattle.std.specs.List.{list_any, slice_get}
-use Rattle.std.specs.Str.{bytes_eq}
 use Rattle.mesh_policy.specs.Connection.{is_mesh_name, mesh_names, offers_mesh_name}
 use Rattle.mesh_policy.specs.declared.case.Tls.{Tls}
 use Rattle.mesh_policy.specs.declared.peer.Mode.{Mode}

@@ -1,5 +1,5 @@
 -- Of the chains of a workload those of the connection's port are left.
-use Rattle.std.proofs.Common.{◌≡◌, ℕ, ◌<◌, ◌==◌, Bool, true, false, ◌||◌, All, AllPairs, List, [], ◌∷◌, ◌++◌, filter, find, flat_map, Option, Some, None, is_some, unwrap_or, cond, suc, if◌then◌else◌, refl, sym, ◌∙◌, ap, arith}
+use Rattle.std.proofs.Common.{◌≡◌, ℕ, ◌<◌, ◌==◌, Bool, true, false, ◌||◌, All, AllPairs, List, [], ◌∷◌, ◌++◌, filter, find, flat_map, Option, Some, None, is_some, unwrap_or, cond, suc, refl, ◌∙◌, ap, arith}
 use Rattle.std.proofs.Math.Bool.{or-false}
 use Rattle.std.proofs.lemmas.Bool.{eqb-true}
 use Rattle.std.proofs.lemmas.List.{append-nil}

@@ -1,12 +1,11 @@
 -- The built listener can be written: its filters, ports and lists keep their limits, and no two chains clash.
-use Rattle.std.proofs.Common.{◌≡◌, ℕ, ◌+◌, ◌*◌, ◌<◌, ◌≤◌, ◌==◌, Bool, true, false, not, ◌&&◌, All, AllPairs, IsTrue, List, [], ◌∷◌, ◌++◌, length, map, flat_map, Option, Some, None, cond, suc, refl, sym, ◌∙◌, ap, ap₂, append_assoc, arith, length-append}
-use Rattle.std.proofs.Math.Dec.{eqb-suc-zero}
-use Rattle.std.proofs.lemmas.Bool.{and_from, and_parts, eqb-true, le-leb}
+use Rattle.std.proofs.Common.{◌≡◌, ℕ, ◌*◌, ◌<◌, ◌≤◌, ◌==◌, Bool, true, false, not, ◌&&◌, All, AllPairs, IsTrue, List, [], ◌∷◌, ◌++◌, length, flat_map, Option, Some, None, suc, refl, ◌∙◌, ap, append_assoc, arith, length-append}
+use Rattle.std.proofs.lemmas.Bool.{and_from, and_parts, eqb-true}
 use Rattle.std.proofs.lemmas.List.Elements.{All-head, All-tail}
 use Rattle.std.proofs.lemmas.List.Folds.{list_all-append}
 use Rattle.std.specs.List.{list_all}
 use Rattle.mesh_policy.specs.Values.{is_port}
-use Rattle.mesh_policy.specs.Workload.{ListedPort, Workload}
+use Rattle.mesh_policy.specs.Workload.{ListedPort}
 use Rattle.mesh_policy.specs.declared.peer.Mode.{Mode}
 use Rattle.mesh_policy.specs.declared.peer.Mode.TheVariants.{Disable, Permissive, Strict}
 use Rattle.envoy_types.specs.ChainForms.{are_distinct, chain_is_printable, clashes, match_is_printable, port_is_printable, same_port}

@@ -1,5 +1,5 @@
 -- Pruning keeps chains in their places: the chain that is chosen is the first that is left of the chains alone.
-use Rattle.std.proofs.Common.{◌≡◌, ℕ, ◌+◌, Bool, true, false, ◌||◌, List, [], ◌∷◌, ◌++◌, length, map, filter, find, Option, Some, None, cond, if◌then◌else◌, refl, sym, subst, ◌∙◌, ap, append_assoc, arith, length-append}
+use Rattle.std.proofs.Common.{◌≡◌, ℕ, ◌+◌, Bool, true, false, ◌||◌, List, [], ◌∷◌, ◌++◌, length, map, filter, find, Option, Some, cond, if◌then◌else◌, refl, subst, ◌∙◌, ap, append_assoc, arith, length-append}
 use Rattle.std.specs.List.{list_any, slice_get}
 use Rattle.std.specs.Option.{option_and_then, option_map}
 use Rattle.mesh_policy.specs.declared.case.Case.{Case}

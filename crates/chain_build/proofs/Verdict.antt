@@ -9,7 +9,6 @@ use Rattle.mesh_policy.specs.declared.case.Case.{Case}
 use Rattle.mesh_policy.specs.declared.case.Tls.{Tls}
 use Rattle.mesh_policy.specs.declared.peer.Mode.{Mode}
 use Rattle.mesh_policy.specs.declared.peer.Mode.TheVariants.{Disable, Permissive, Strict}
-use Rattle.mesh_policy.specs.declared.service.Protocol.{Protocol}
 use Rattle.mesh_policy.specs.declared.service.Protocol.TheVariants.{Tcp}
 use Rattle.mesh_policy.specs.declared.verdict.Verdict.{Verdict}
 use Rattle.mesh_text.specs.declared.memory.Memory.{Memory}

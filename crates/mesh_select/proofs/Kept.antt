@@ -1,5 +1,5 @@
 -- The workload of a Pod that no reason speaks against keeps the limits.
-use Rattle.std.proofs.Common.{◌≡◌, ℕ, ◌≤◌, Bool, true, false, cond, ◌&&◌, ◌<◌, ◌++◌, All, AllPairs, IsTrue, List, [], ◌∷◌, length, map, filter, find, bytes_eq, get_or, is_some, Option, Some, None, nat_lt, refl, sym, ◌∙◌, ap₂, subst, arith}
+use Rattle.std.proofs.Common.{◌≡◌, ℕ, ◌≤◌, Bool, true, false, cond, ◌&&◌, ◌<◌, ◌++◌, All, AllPairs, IsTrue, List, length, map, filter, bytes_eq, get_or, is_some, Option, Some, None, nat_lt, refl, sym, ◌∙◌, ap₂, subst, arith}
 use Rattle.std.proofs.lemmas.Bool.Decides.{nat_tests}
 use Rattle.std.proofs.lemmas.List.{length-map}
 use Rattle.std.proofs.lemmas.List.Elements.{All-filter, All-map, All-weaker, filter_passes}

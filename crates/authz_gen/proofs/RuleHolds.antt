@@ -56,7 +56,8 @@ module _ (case : Case) (seen : Seen) where
   operation-holds o =
       all-holds permits (field_of (map port_tree o.ports) (map port_tree o.not_ports))
       ∙ field-holds permits port_tree _ port-holds o.ports o.not_ports
-      ∙ sym (and-true _ ∙ and-true (rules.both_hold (rules.number_matches (key.attribute case seen key.destination_port)) o.ports o.not_ports))
+      ∙ sym (and-true _ ∙ and-true (rules.both_hold (rules.number_matches
+      (key.attribute case seen key.destination_port)) o.ports o.not_ports))
 
   one_of-map : {A B : Type 0} (test : B → Bool) (make : A → B) (xs : List A)
       → rules.one_of test (map make xs) ≡ rules.one_of (λ x. test (make x)) xs

@@ -56,7 +56,8 @@ module _ (port : Option ℕ) (filters : List NetworkFilter) where
   -- a mesh name in the offer, wherever it stands, leads to mutual TLS
   abbrev left_of_two : List (List ℕ) → Option FilterChain
   left_of_two names =
-      slice_get (narrowed (names_agreed (agreed_name names (mutual_chain ∷ opaque_chain ∷ []))) is_any_name (mutual_chain ∷ opaque_chain ∷ [])) 0
+      slice_get (narrowed (names_agreed (agreed_name names (mutual_chain ∷ opaque_chain ∷ []))) is_any_name
+      (mutual_chain ∷ opaque_chain ∷ [])) 0
 
   two-left : (names : List (List ℕ)) → left_of_two names ≡ Some (if list_any is_mesh_name names then mutual_chain else opaque_chain)
   unfolding tcp_chain
@@ -70,7 +71,8 @@ module _ (port : Option ℕ) (filters : List NetworkFilter) where
 
   -- ---- the table
 
-  pub left : (mode : Mode) (tls : Option Tls) → slice_get (for_names tls (for_transport tls (tcp_chains mode port filters))) 0 ≡ chain_for mode tls
+  pub left : (mode : Mode) (tls : Option Tls) → slice_get (for_names tls (for_transport tls (tcp_chains mode port filters))) 0
+      ≡ chain_for mode tls
   unfolding tcp_chains tcp_chain
   left Strict None = refl
   left Strict (Some tls) = strict-left tls.alpn

@@ -1,5 +1,6 @@
 -- Each listed port of an accepted Pod is a port from 1 to 65,535.
-use Rattle.std.proofs.Common.{◌≡◌, ℕ, ◌++◌, Bool, true, false, cond, All, IsTrue, List, [], ◌∷◌, filter, find, map, Option, Some, None, refl, subst}
+use Rattle.std.proofs.Common.{◌≡◌, ℕ, ◌++◌, Bool, true, false, cond, All, IsTrue, List, [], ◌∷◌, filter, find, map, Option, Some, None}
+use Rattle.std.proofs.Common.{refl, subst}
 use Rattle.std.proofs.lemmas.List.Elements.{All-append, All-cons, All-filter, All-head, All-map, All-nil, All-tail, All-weaker}
 use Rattle.std.proofs.lemmas.Map.Views.{All-insert_key}
 use Rattle.std.specs.BTreeSet.{insert_key}

@@ -1,2 +1,4 @@
 mod Entries
+mod HeadersFirst
 mod NamedOnto
+mod Rising

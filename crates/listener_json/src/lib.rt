@@ -10,6 +10,16 @@ mod lists;
 mod places;
 mod providers;
 mod rbac;
+mod read_authz;
+mod read_jwt;
+mod read_lists;
+mod read_maps;
+mod read_parts;
+mod read_providers;
+mod read_rbac;
+mod read_requirements;
+mod read_routes;
+mod read_sockets;
 mod routes;
 mod sockets;
 

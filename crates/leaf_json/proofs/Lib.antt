@@ -1,1 +1,3 @@
+pub mod BlockLemmas
+pub mod StringLemmas
 pub mod TreeLemmas

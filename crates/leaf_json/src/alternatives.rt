@@ -12,6 +12,9 @@ use mesh_doc::{DocError, Form as ValueForm, Reason, Spot, required_written, writ
 use serde_json::Value;
 use std::alloc::Global;
 
+/// The most entries of any list but that of the filter chains.
+pub const MOST_ENTRIES: u32 = 8192;
+
 /// BadForm at `at`, unless the value `v` there has exactly one field of these names. Takes no memory but for the fault.
 #[tactic(auto, unfolding(envoy_types::specs::SmallForms::one_of))]
 pub fn one_of(alloc: Global, v: &Value, names: &[&str], at: &Spot) -> Result<(), DocError>

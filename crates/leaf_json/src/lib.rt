@@ -15,11 +15,12 @@ mod trees;
 mod values;
 
 pub use alternatives::{
-    AnyPort, Port, TrueAlone, count_written, fixed, fixed_field, named, number_within, one_of,
-    plain_config,
+    AnyPort, MOST_ENTRIES, Port, TrueAlone, count_written, fixed, fixed_field, named, number_within,
+    one_of, plain_config,
 };
 pub use fields::{Fields, config_of, named_value, number_value, sole_field, text_value};
 pub use form::{Form, Word};
-pub use strings::string_to_value;
+pub use headers::LowerToken;
+pub use strings::{StringForm, string_from_value, string_to_value};
 pub use trees::{tree_list_value, tree_to_value};
-pub use values::segment_value;
+pub use values::{SegmentForm, segment_value};

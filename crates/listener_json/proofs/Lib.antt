@@ -1,4 +1,7 @@
+mod Chosen
+mod Endings
 mod Entries
 mod HeadersFirst
 mod NamedOnto
+mod Options
 mod Rising

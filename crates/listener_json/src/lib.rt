@@ -11,8 +11,13 @@ mod places;
 mod providers;
 mod rbac;
 mod read_authz;
+mod read_chains;
+mod read_clashes;
+mod read_filters;
 mod read_jwt;
+mod read_listener;
 mod read_lists;
+mod read_manager;
 mod read_maps;
 mod read_parts;
 mod read_providers;
@@ -24,3 +29,4 @@ mod routes;
 mod sockets;
 
 pub use listener::to_value;
+pub use read_listener::from_value;

@@ -17,7 +17,7 @@ use envoy_types::{
     AuthService, ExtAuthz, HTTP_AUTHZ_NAME, HTTP_AUTHZ_TYPE, HTTP_RBAC_NAME, NETWORK_AUTHZ_NAME,
     NETWORK_AUTHZ_TYPE, NETWORK_RBAC_NAME, StringMatcher,
 };
-use leaf_json::{fixed_field, named, one_of, segment_at, string_at};
+use leaf_json::{SegmentForm, StringForm, fixed_field, named, one_of};
 use mesh_doc::{
     AnyText, AnyTruth, DocError, Form, Spot, optional_written, required_written, written,
 };
@@ -165,26 +165,9 @@ fn enabled(
 {
     at.only_fields(alloc, v, &[FILTER, PATH, VALUE])?;
     fixed_field(alloc, v, FILTER, rbac_name, at)?;
-    let key = required_with::<Sole<Plain<Segment>>>(alloc, &(), v, PATH, at)?;
+    let key = required_with::<Sole<Plain<SegmentForm>>>(alloc, &(), v, PATH, at)?;
     let matcher = required_written::<EnabledValue>(alloc, v, VALUE, at)?;
     Ok((key, matcher))
-}
-
-struct Segment;
-
-impl Form for Segment {
-    ghost use Rattle.mesh_doc.specs.Kinds.{text_faults};
-    ghost use Rattle.envoy_types.specs.ValueForms.{segment_faults, segment_in};
-
-    type Out = Text;
-
-    ghost faults = { segment_faults text_faults };
-
-    ghost value = { segment_in };
-
-    fn read(alloc: Global, v: &Value, at: &Spot) -> Result<Text, DocError> {
-        segment_at(alloc, v, at)
-    }
 }
 
 struct EnabledValue;
@@ -201,23 +184,7 @@ impl Form for EnabledValue {
     #[tactic(auto, unfolding(envoy_types::specs::AuthzForms::enabled_value_faults))]
     fn read(alloc: Global, v: &Value, at: &Spot) -> Result<StringMatcher, DocError> {
         at.only_fields(alloc, v, &[STRING_MATCH])?;
-        required_written::<Matcher>(alloc, v, STRING_MATCH, at)
-    }
-}
-
-struct Matcher;
-
-impl Form for Matcher {
-    ghost use Rattle.envoy_types.specs.StringForms.{string_faults, string_in};
-
-    type Out = StringMatcher;
-
-    ghost faults = { string_faults };
-
-    ghost value = { string_in };
-
-    fn read(alloc: Global, v: &Value, at: &Spot) -> Result<StringMatcher, DocError> {
-        string_at(alloc, v, at)
+        required_written::<StringForm>(alloc, v, STRING_MATCH, at)
     }
 }
 

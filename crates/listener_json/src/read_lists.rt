@@ -1,6 +1,6 @@
 //! Lists of a listener's JSON, read: of entries whose form leans on another value, of one entry, and of the entries before the
 //! last one.
-ghost use Rattle.std.specs.Prelude.{◌≡◌, ◌<◌, ◌^◌, length};
+ghost use Rattle.std.specs.Prelude.{◌≡◌, ◌<◌, ◌^◌, [], ◌∷◌, ◌++◌, length};
 ghost use Rattle.serde_json.specs.Data.{array};
 ghost use Rattle.serde_json.specs.Events.{items_len};
 ghost use Rattle.serde_json.specs.View.{items_view, view};
@@ -11,14 +11,12 @@ ghost use Rattle.mesh_doc.specs.Lists as lists;
 ghost use Rattle.mesh_doc.specs.Turns.{entries_in_turn};
 ghost use Rattle.envoy_types.specs.SmallForms as form;
 
+use leaf_json::MOST_ENTRIES;
 use mesh_doc::{DocError, Form, Reason, Spot, written};
 use mesh_text::List;
 use serde_json::Value;
 use std::alloc::Global;
 use std::marker::PhantomData;
-
-/// The most entries of any list but that of the chains.
-pub(crate) const MOST_ENTRIES: u32 = 8192;
 
 /// A form that leans on a value which was read before.
 pub(crate) trait FormWith {
@@ -232,7 +230,7 @@ impl<F: FormWith> FormWith for Sole<F> {
 }
 
 #[tactic(auto, unfolding(envoy_types::specs::SmallForms::list_that, envoy_types::specs::SmallForms::short_list_faults, envoy_types::specs::SmallForms::sole_in, mesh_doc::specs::Kinds::list_faults, mesh_doc::specs::Kinds::length_in, mesh_doc::specs::Lists::list_of, mesh_doc::specs::Turns::list_in_turn), using(mesh_doc::proofs::Counts::count_of_items))]
-fn sole_entry<F: FormWith>(
+pub(crate) fn sole_entry<F: FormWith>(
     alloc: Global,
     given: &F::Given,
     items: &[Value],
@@ -249,4 +247,23 @@ fn sole_entry<F: FormWith>(
         return Err(at.refuse(alloc, Reason::BadForm));
     };
     F::read(alloc, given, item, &Spot::index(at, 0))
+}
+
+/// Entries of the form `F`, and behind them the last one, of the form `G`.
+#[tactic(auto, unfolding(envoy_types::specs::SmallForms::ending_with, envoy_types::specs::SmallForms::front_in, envoy_types::specs::SmallForms::last_in), using(crate::proofs::Endings::endings))]
+pub(crate) fn ending<F: Form, G: Form>(
+    alloc: Global,
+    front: &[Value],
+    last: &Value,
+    at: &Spot,
+) -> Result<(List<F::Out>, G::Out), DocError>
+    requires { length front.now < 2 ^ 32 }
+    ensures { Reads result
+        (form.ending_with F.faults G.faults (array (items_view (front.now ++ last.now ∷ []))) at.now)
+        (form.front_in F.value (array (items_view (front.now ++ last.now ∷ []))),
+        form.last_in G.value (array (items_view (front.now ++ last.now ∷ [])))) }
+{
+    let entries = each_with::<Plain<F>>(alloc, &(), front, at)?;
+    let end = G::read(alloc, last, &Spot::index(at, front.len() as u32))?;
+    Ok((entries, end))
 }

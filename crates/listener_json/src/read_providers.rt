@@ -1,14 +1,11 @@
 //! Token providers, read from JSON.
-ghost use Rattle.std.specs.Prelude.{◌≡◌, ◌++◌, IfOk, not};
-ghost use Rattle.std.specs.List.{list_all};
+ghost use Rattle.std.specs.Prelude.{◌≡◌, ◌++◌, IfOk};
 ghost use Rattle.serde_json.specs.View.{view};
 ghost use Rattle.mesh_doc.specs.Faults.{Reads};
 ghost use Rattle.mesh_policy.specs.Jwt.{or_default};
-ghost use Rattle.mesh_policy.specs.Values.{is_upper};
 ghost use Rattle.envoy_types.specs.ProviderForms as form;
 ghost use Rattle.envoy_types.specs.declared.keys.TheConstants as keys;
 
-use crate::read_lists::MOST_ENTRIES;
 use crate::read_parts::or_second;
 use envoy_types::JwtProvider;
 use envoy_types::fixed::{KEYS_CLUSTER, KEYS_TIME, PAYLOAD};
@@ -17,13 +14,13 @@ use envoy_types::keys::{
     INLINE_STRING, ISSUER, LOCAL_JWKS, NAME, PAYLOAD_IN_METADATA, REMOTE_JWKS, TIMEOUT, URI,
     VALUE_PREFIX,
 };
-use leaf_json::{fixed_field, one_of};
+use leaf_json::{LowerToken, MOST_ENTRIES, fixed_field, one_of};
 use mesh_doc::{
-    AnyText, AnyTruth, DocError, Entry, Form, Reason, Spot, Tested, TextTest, listed_written,
-    optional_written, required_written,
+    AnyText, AnyTruth, DocError, Entry, Form, Spot, Tested, listed_written, optional_written,
+    required_written,
 };
 use mesh_policy::{JwtRule, Keys, TokenPlace, places_or_default};
-use mesh_text::{List, Memory, Text, is_token};
+use mesh_text::{List, Memory, Text};
 use serde_json::Value;
 use std::alloc::Global;
 
@@ -75,7 +72,7 @@ fn provider_rule(
     one_of(alloc, v, &[LOCAL_JWKS, REMOTE_JWKS], at)?;
     let audiences = listed_written::<AnyText>(alloc, v, AUDIENCES, MOST_ENTRIES, at)?;
     let forward = optional_written::<AnyTruth>(alloc, v, FORWARD, at)?;
-    let payload_header = optional_written::<LowerToken>(alloc, v, FORWARD_PAYLOAD_HEADER, at)?;
+    let payload_header = optional_written::<Tested<LowerToken>>(alloc, v, FORWARD_PAYLOAD_HEADER, at)?;
     let headers = listed_written::<FromHeader>(alloc, v, FROM_HEADERS, MOST_ENTRIES, at)?;
     let params = listed_written::<FromParam>(alloc, v, FROM_PARAMS, MOST_ENTRIES, at)?;
     let issuer = required_written::<AnyText>(alloc, v, ISSUER, at)?;
@@ -104,35 +101,6 @@ fn places_of(
     places_or_default(alloc, places)
 }
 
-/// The name of a header: a token in lower case.
-type LowerToken = Tested<IsLowerToken>;
-
-struct IsLowerToken;
-
-impl TextTest for IsLowerToken {
-    ghost use Rattle.mesh_doc.specs.declared.reason.Reason.TheVariants as reasons;
-    ghost use Rattle.envoy_types.specs.HeaderForms.{is_lower_token};
-
-    ghost passes = { is_lower_token };
-
-    ghost reason = { reasons.BadForm };
-
-    #[tactic(auto, unfolding(envoy_types::specs::HeaderForms::is_lower_token))]
-    fn passes(text: &str) -> bool {
-        is_token(text) && has_no_upper(text.as_bytes())
-    }
-
-    fn reason() -> Reason {
-        Reason::BadForm
-    }
-}
-
-fn has_no_upper(bytes: &[u8]) -> bool
-    ensures { result ≡ list_all (λ c. not (is_upper c)) bytes.now }
-{
-    bytes.iter().all(|c| !c.is_ascii_uppercase())
-}
-
 // An entry of `from_headers`, with an empty prefix where none is written.
 struct FromHeader;
 
@@ -146,7 +114,7 @@ impl Form for FromHeader {
     #[tactic(auto, unfolding(envoy_types::specs::ProviderForms::from_header_faults, envoy_types::specs::ProviderForms::from_header_in))]
     fn read(alloc: Global, v: &Value, at: &Spot) -> Result<TokenPlace, DocError> {
         at.only_fields(alloc, v, &[NAME, VALUE_PREFIX])?;
-        let name = required_written::<LowerToken>(alloc, v, NAME, at)?;
+        let name = required_written::<Tested<LowerToken>>(alloc, v, NAME, at)?;
         let prefix = match optional_written::<AnyText>(alloc, v, VALUE_PREFIX, at)? {
             Some(prefix) => prefix,
             None => Text::of(alloc, "")?,

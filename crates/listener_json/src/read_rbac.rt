@@ -14,12 +14,11 @@ use envoy_types::{
     HTTP_RBAC_NAME, HTTP_RBAC_TYPE, NETWORK_RBAC_NAME, NETWORK_RBAC_TYPE, PermissionLeaf,
     PrincipalLeaf, Rbac, RbacAction, RbacPolicy, RbacRules,
 };
-use leaf_json::{fixed_field, named, tree_list_at};
+use leaf_json::{TreeListForm, fixed_field, named};
 use mesh_doc::{
     AnyText, DocError, Entry, Form, Reason, Spot, optional_written, required_written,
 };
-use mesh_text::{List, Text};
-use mesh_tree::Tree;
+use mesh_text::Text;
 use serde_json::Value;
 use std::alloc::Global;
 
@@ -164,46 +163,12 @@ impl Entry for Policy {
     #[tactic(auto, unfolding(envoy_types::specs::RbacForms::policy_faults, envoy_types::specs::RbacForms::policy_in))]
     fn read(alloc: Global, key: &str, v: &Value, at: &Spot) -> Result<RbacPolicy, DocError> {
         at.only_fields(alloc, v, &[PERMISSIONS, PRINCIPALS])?;
-        let permissions = required_written::<Permissions>(alloc, v, PERMISSIONS, at)?;
-        let principals = required_written::<Principals>(alloc, v, PRINCIPALS, at)?;
+        let permissions = required_written::<TreeListForm<PermissionLeaf>>(alloc, v, PERMISSIONS, at)?;
+        let principals = required_written::<TreeListForm<PrincipalLeaf>>(alloc, v, PRINCIPALS, at)?;
         Ok(RbacPolicy {
             name: Text::of(alloc, key)?,
             permissions,
             principals,
         })
-    }
-}
-
-struct Permissions;
-
-impl Form for Permissions {
-    ghost use Rattle.envoy_types.specs.PermissionForms.{permission_form};
-    ghost use Rattle.envoy_types.specs.TreeForms.{tree_list_faults, tree_list_in};
-
-    type Out = List<Tree<PermissionLeaf>>;
-
-    ghost faults = { tree_list_faults permission_form };
-
-    ghost value = { tree_list_in permission_form };
-
-    fn read(alloc: Global, v: &Value, at: &Spot) -> Result<List<Tree<PermissionLeaf>>, DocError> {
-        tree_list_at::<PermissionLeaf>(alloc, v, at)
-    }
-}
-
-struct Principals;
-
-impl Form for Principals {
-    ghost use Rattle.envoy_types.specs.PrincipalForms.{principal_form};
-    ghost use Rattle.envoy_types.specs.TreeForms.{tree_list_faults, tree_list_in};
-
-    type Out = List<Tree<PrincipalLeaf>>;
-
-    ghost faults = { tree_list_faults principal_form };
-
-    ghost value = { tree_list_in principal_form };
-
-    fn read(alloc: Global, v: &Value, at: &Spot) -> Result<List<Tree<PrincipalLeaf>>, DocError> {
-        tree_list_at::<PrincipalLeaf>(alloc, v, at)
     }
 }

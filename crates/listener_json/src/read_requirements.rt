@@ -11,10 +11,10 @@ ghost use Rattle.envoy_types.specs.JwtForms as form;
 ghost use Rattle.envoy_types.specs.SmallForms.{count_written};
 ghost use Rattle.envoy_types.specs.declared.keys.TheConstants as keys;
 
-use crate::read_lists::{FormWith, MOST_ENTRIES, optional_with, required_with};
+use crate::read_lists::{FormWith, optional_with, required_with};
 use envoy_types::keys::{ALLOW_MISSING, PROVIDER_NAME, REQUIREMENTS, REQUIRES_ANY};
 use envoy_types::{JwtProvider, Requirement};
-use leaf_json::one_of;
+use leaf_json::{MOST_ENTRIES, one_of};
 use mesh_doc::{DocError, Form, Reason, Spot, optional_written, written};
 use mesh_text::{List, Memory, Text};
 use serde_json::Value;

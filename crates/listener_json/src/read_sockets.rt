@@ -4,7 +4,7 @@ ghost use Rattle.serde_json.specs.View.{items_view, view};
 ghost use Rattle.mesh_doc.specs.Faults.{Reads};
 ghost use Rattle.envoy_types.specs.SocketForms as form;
 
-use crate::read_lists::{MOST_ENTRIES, Plain, Sole, required_with};
+use crate::read_lists::{Plain, Sole, required_with};
 use envoy_types::fixed::{MESH_ROOTS, OWN_CERTIFICATE};
 use envoy_types::keys::{
     COMMON_TLS_CONTEXT, NAME, REQUIRE_CLIENT_CERTIFICATE, TLS_CERTIFICATES, TYPE,
@@ -14,7 +14,7 @@ use envoy_types::{
     ORIGINAL_DST_NAME, ORIGINAL_DST_TYPE, TLS_INSPECTOR_NAME, TLS_INSPECTOR_TYPE, TLS_SOCKET_NAME,
     TLS_SOCKET_TYPE,
 };
-use leaf_json::{TrueAlone, fixed_field, named, plain_config};
+use leaf_json::{MOST_ENTRIES, TrueAlone, fixed_field, named, plain_config};
 use mesh_doc::{DocError, Form, Reason, Spot, required_written};
 use serde_json::Value;
 use std::alloc::Global;

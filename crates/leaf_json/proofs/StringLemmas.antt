@@ -27,7 +27,7 @@ chosen-at contains exact prefix suffix fold =
 
 chosen-texts : (contains exact prefix suffix : Option Data) (fold : Bool)
     → matcher-of (option_map text_in contains) (option_map text_in exact) (option_map text_in prefix)
-      (unwrap_or (option_map text_in suffix) []) fold
+    (unwrap_or (option_map text_in suffix) []) fold
     ≡ chosen-at contains exact prefix suffix fold
 unfolding text_in
 chosen-texts (Some x) exact prefix suffix fold = refl
@@ -38,8 +38,8 @@ chosen-texts None None None None fold = refl
 
 pub matcher_of_texts : (d : Data)
     → matcher-of (optional_written_in CONTAINS.now text_in d) (optional_written_in EXACT.now text_in d)
-      (optional_written_in PREFIX.now text_in d) (unwrap_or (optional_written_in SUFFIX.now text_in d) [])
-      (unwrap_or (optional_written_in IGNORE_CASE.now truth_in d) false)
+    (optional_written_in PREFIX.now text_in d) (unwrap_or (optional_written_in SUFFIX.now text_in d) [])
+    (unwrap_or (optional_written_in IGNORE_CASE.now truth_in d) false)
     ≡ string_in d
 unfolding string_in optional_written_in required_written_in
 matcher_of_texts d =

@@ -60,7 +60,9 @@ impl Form for BlockForm {
 // The address that a text spells.
 #[tactic(auto, unfolding(mesh_doc::specs::Tested::tested, mesh_doc::specs::Kinds::text_faults, mesh_doc::specs::Kinds::text_in))]
 fn address(alloc: Global, v: &Value, at: &Spot) -> Result<IpAddr, DocError>
-    ensures { Reads (result_map_both Some (λ e. e) result) (form.address_prefix_faults (view v.now) at.now) (ip_of (text_in (view v.now))) }
+    ensures { Reads (result_map_both Some (λ e. e) result)
+        (form.address_prefix_faults (view v.now) at.now)
+        (ip_of (text_in (view v.now))) }
 {
     let Value::String(text) = v else {
         return Err(at.refuse(alloc, Reason::WrongType));

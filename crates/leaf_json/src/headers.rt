@@ -16,7 +16,9 @@ use envoy_types::keys::{NAME, PRESENT_MATCH, STRING_MATCH};
 use envoy_types::{
     AUTHORITY_HEADER, HeaderMatch, HeaderTest, METHOD_HEADER, PATH_HEADER, StringMatcher,
 };
-use mesh_doc::{DocError, Form, Reason, Spot, Tested, TextTest, optional_written, required_written};
+use mesh_doc::{
+    DocError, Form, Reason, Spot, Tested, TextTest, optional_written, required_written,
+};
 use mesh_text::{Memory, is_token};
 use serde_json::Value;
 use std::alloc::Global;

@@ -69,7 +69,13 @@ impl Form for StringForm {
         let ignore_case = optional_written::<AnyTruth>(alloc, v, IGNORE_CASE, at)?;
         let ignore_case = ignore_case.unwrap_or(false);
         let no_text = Text::from_string(String::new(alloc));
-        Ok(alternative(contains, exact, prefix, suffix.unwrap_or(no_text), ignore_case))
+        Ok(alternative(
+            contains,
+            exact,
+            prefix,
+            suffix.unwrap_or(no_text),
+            ignore_case,
+        ))
     }
 }
 

@@ -18,9 +18,7 @@ use envoy_types::keys::{
     FILTER, KEY, LIST_MATCH, ONE_OF, PATH, PRESENT_MATCH, STRING_MATCH, VALUE,
 };
 use envoy_types::{JWT_NAME, StringMatcher, ValueMatcher};
-use mesh_doc::{
-    AnyText, DocError, Form, Reason, Spot, optional_written, required_written,
-};
+use mesh_doc::{AnyText, DocError, Form, Reason, Spot, optional_written, required_written};
 use mesh_text::{List, Memory, Text};
 use serde_json::Value;
 use std::alloc::Global;
@@ -200,11 +198,7 @@ impl Form for MetadataForm {
     ghost value = { λ d. (required_written_in PATH.now form.path_in d, required_written_in VALUE.now form.value_in d) };
 
     #[tactic(auto, unfolding(envoy_types::specs::ValueForms::metadata_faults))]
-    fn read(
-        alloc: Global,
-        v: &Value,
-        at: &Spot,
-    ) -> Result<(List<Text>, ValueMatcher), DocError> {
+    fn read(alloc: Global, v: &Value, at: &Spot) -> Result<(List<Text>, ValueMatcher), DocError> {
         at.only_fields(alloc, v, &[FILTER, PATH, VALUE])?;
         fixed_field(alloc, v, FILTER, JWT_NAME, at)?;
         let keys = required_written::<PathForm>(alloc, v, PATH, at)?;
@@ -239,12 +233,12 @@ fn path(alloc: Global, items: &[Value], at: &Spot) -> Result<List<Text>, DocErro
     if items.len() > MOST_ENTRIES as usize {
         return Err(at.refuse(alloc, Reason::TooMany));
     }
-    if items.len() < 2 {
-        return Err(at.refuse(alloc, Reason::BadForm));
-    }
     let Some((first, rest)) = items.split_first() else {
         return Err(at.refuse(alloc, Reason::BadForm));
     };
+    if rest.is_empty() {
+        return Err(at.refuse(alloc, Reason::BadForm));
+    }
     payload_segment(alloc, first, &Spot::index(at, 0))?;
     later_keys(alloc, rest, at)
 }

@@ -1,14 +1,14 @@
 -- The places of a provider: one at least, and headers before parameters.
-use Rattle.std.proofs.Common.{◌≡◌, ◌++◌, true, List, [], ◌∷◌, IsTrue, refl}
+use Rattle.std.proofs.Common.{◌≡◌, ◌++◌, true, List, [], ◌∷◌, length, Option, Some, None, IsTrue, refl}
 use Rattle.std.specs.List.{list_all}
 use Rattle.serde_json.specs.Data.{Data, Items, no_items, item}
 use Rattle.mesh_doc.specs.Kinds.{items_of}
 use Rattle.mesh_doc.specs.Lists.{each_in, found_list, list_in, listed_written_in}
 use Rattle.serde_json.specs.Find.{get}
-use Rattle.std.proofs.Common.{Option, Some, None}
 use Rattle.mesh_policy.specs.AcceptedTokens.{has_headers_first, is_param}
 use Rattle.mesh_policy.specs.Jwt.{or_default}
 use Rattle.mesh_policy.specs.declared.jwt.TokenPlace.{TokenPlace}
+use Rattle.envoy_types.proofs.PartsBack.{not-zero}
 use Rattle.envoy_types.specs.Order.{are_places}
 use Rattle.envoy_types.specs.ProviderForms.{from_header_in, from_param_in, places_in}
 use Rattle.envoy_types.specs.declared.keys.TheConstants.{FROM_HEADERS, FROM_PARAMS}
@@ -48,7 +48,7 @@ headers-found (Some d) places h = headers-first (items_of d) places h
 
 or-default : (places : List TokenPlace) → has_headers_first places ≡ true → are_places (or_default places) ≡ true
 or-default [] h = refl
-or-default (first ∷ more) h = h
+or-default (first ∷ more) h = rw (not-zero (length more)) h
 
 pub places-ordered : (d : Data) → IsTrue (are_places (places_in d))
 unfolding places_in listed_written_in

@@ -1,6 +1,7 @@
 mod Chosen
 mod Endings
 mod Entries
+mod FewChains
 mod HeadersFirst
 mod NamedOnto
 mod Options

@@ -1,4 +1,4 @@
-//! The JSON of listeners, written (Envoy v3 API reference; docs/FORMATS.md has the forms).
+//! The JSON of listeners, written and read (Envoy v3 API reference; docs/FORMATS.md has the forms).
 #![tactic(auto)]
 
 mod authz;
@@ -25,8 +25,10 @@ mod read_rbac;
 mod read_requirements;
 mod read_routes;
 mod read_sockets;
+mod round_trip;
 mod routes;
 mod sockets;
 
 pub use listener::to_value;
 pub use read_listener::from_value;
+pub use round_trip::{read_back, read_back_text};

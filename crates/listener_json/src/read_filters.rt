@@ -60,12 +60,13 @@ fn body_entries(alloc: Global, items: &[Value], at: &Spot) -> Result<ChainBody, 
 }
 
 // One connection manager alone.
+#[tactic(auto, using(crate::proofs::Endings::sole_manager))]
 fn is_manager(items: &[Value]) -> bool
     ensures { result ≡ form.is_manager (items_view items.now) }
 {
-    match items {
-        [only] => is_named(only, HTTP_MANAGER_NAME),
-        _ => false,
+    match items.split_first() {
+        Some((first, rest)) => rest.is_empty() && is_named(first, HTTP_MANAGER_NAME),
+        None => false,
     }
 }
 

@@ -34,7 +34,7 @@ pub fn from_value(alloc: Global, v: &Value, place: &Place) -> Result<Listener, D
     read_listener(alloc, v, &Spot::of(place))
 }
 
-#[tactic(auto, unfolding(envoy_types::specs::ListenerForms::listener_faults, envoy_types::specs::ListenerForms::listener_in, mesh_doc::specs::Fields::required_written_in))]
+#[tactic(auto, unfolding(envoy_types::specs::ListenerForms::listener_faults, envoy_types::specs::ListenerForms::listener_in, envoy_types::specs::ListenerForms::duplicate_faults, envoy_types::specs::ListenerForms::chains_in, mesh_doc::specs::Fields::required_written_in))]
 fn read_listener(alloc: Global, v: &Value, at: &Spot) -> Result<Listener, DocError>
     ensures { Reads result (form.listener_faults (view v.now) at.now) (form.listener_in (view v.now)) }
 {

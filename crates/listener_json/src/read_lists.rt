@@ -1,6 +1,6 @@
 //! Lists of a listener's JSON, read: of entries whose form leans on another value, of one entry, and of the entries before the
 //! last one.
-ghost use Rattle.std.specs.Prelude.{◌≡◌, ◌<◌, ◌^◌, [], ◌∷◌, ◌++◌, length};
+ghost use Rattle.std.specs.Prelude.{◌≡◌, ◌<◌, ◌≤◌, ◌^◌, [], ◌∷◌, ◌++◌, IfOk, length};
 ghost use Rattle.serde_json.specs.Data.{array};
 ghost use Rattle.serde_json.specs.Events.{items_len};
 ghost use Rattle.serde_json.specs.View.{items_view, view};
@@ -101,7 +101,8 @@ pub(crate) fn optional_with<F: FormWith>(
 /// The length of the list `v` at `at`: WrongType where it is none, and TooMany where it has more than `most` entries.
 #[tactic(auto, unfolding(envoy_types::specs::SmallForms::short_list_faults))]
 pub(crate) fn short_list(alloc: Global, v: &Value, most: u32, at: &Spot) -> Result<usize, DocError>
-    ensures { Reads result (form.short_list_faults most (view v.now) at.now) (length_in (view v.now)) }
+    ensures reads { Reads result (form.short_list_faults most (view v.now) at.now) (length_in (view v.now)) }
+    ensures few { IfOk result (λ count. count ≤ most) }
 {
     let count = length_of(alloc, v, at)?;
     if count > most as usize {

@@ -32,7 +32,7 @@ impl FormWith for RequirementForm {
 
     ghost value = { form.requirement_in };
 
-    #[tactic(auto, unfolding(envoy_types::specs::JwtForms::requirement_faults, envoy_types::specs::JwtForms::requirement_in))]
+    #[tactic(auto, unfolding(envoy_types::specs::JwtForms::requirement_faults, envoy_types::specs::SmallForms::one_of))]
     fn read(
         alloc: Global,
         given: &List<JwtProvider>,
@@ -47,7 +47,7 @@ impl FormWith for RequirementForm {
 }
 
 // The provider that was found, or else several.
-#[tactic(auto, unfolding(envoy_types::specs::JwtForms::requirement_in, mesh_doc::specs::Fields::required_written_in, mesh_doc::specs::Fields::optional_written_in, mesh_doc::specs::Fields::optional_written))]
+#[tactic(auto, unfolding(envoy_types::specs::JwtForms::requirement_in, mesh_doc::specs::Fields::required_written_in, mesh_doc::specs::Fields::optional_written_in, mesh_doc::specs::Fields::required_written, mesh_doc::specs::Fields::optional_written))]
 fn one_or_any(
     alloc: Global,
     name: Option<Text>,

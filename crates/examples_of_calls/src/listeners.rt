@@ -1,7 +1,8 @@
-// Listeners as JSON: one that has every form, and two that have nothing but defaults.
+// Listeners as JSON: one that has every form, two that have nothing but defaults, and those that are read.
 use crate::call::Call;
 use crate::listener_rules::{logged, network_rules, no_rules, request_rules, told};
 use crate::matchers::matcher;
+use crate::shown::refused;
 use crate::stop::Stop;
 use crate::token_filters::{claims_filter, plain_filter, whole_filter};
 use envoy_types::{
@@ -9,20 +10,31 @@ use envoy_types::{
     NetworkFilter, PermissionLeaf, StringMatcher, Transport,
 };
 use leaf_json::{string_to_value, tree_to_value};
-use listener_json::to_value;
+use listener_json::{from_value, to_value};
+use mesh_doc::Place;
 use mesh_text::{List, Memory, Text};
 use mesh_tree::Tree;
 use serde_json::Value;
 use std::alloc::Global;
 
-/// The listener is one of three, by its name. The matcher is that of a pattern, as in `StringMatcher::of`, and the tree is
+/// The listener that is written is one of three, by its name, and one that is read is shown as it is written, or its first fault
+/// is. The matcher is that of a pattern, as in `StringMatcher::of`, and the tree is
 /// that of a permission for all ports but the argument.
 pub fn answer(alloc: Global, call: &Call) -> Result<Option<String>, Stop> {
     match call.name {
         "to_value" => listener_value(alloc, call),
+        "from_value" => read(alloc, call.value(0)?),
         "string_to_value" => shown(alloc, &string_to_value(alloc, &matcher(alloc, call)?)?),
         "tree_to_value" => tree_value(alloc, call),
         _ => Ok(None),
+    }
+}
+
+fn read(alloc: Global, v: &Value) -> Result<Option<String>, Stop> {
+    let whole: Place = List::new(alloc);
+    match from_value(alloc, v, &whole) {
+        Ok(listener) => shown(alloc, &to_value(alloc, &listener)?),
+        Err(error) => Ok(Some(refused(alloc, error)?)),
     }
 }
 

@@ -1,5 +1,5 @@
 -- The built listener gives each connection the verdict of the policies.
-use Rattle.std.proofs.Common.{◌≡◌, ℕ, ◌==◌, ◌<◌, Bool, true, false, All, AllPairs, List, [], ◌∷◌, find, Option, Some, None, is_some, cond, unwrap_or, if◌then◌else◌, refl, sym, ◌∙◌, ap}
+use Rattle.std.proofs.Common.{◌≡◌, ℕ, ◌==◌, ◌<◌, Bool, true, false, All, AllPairs, List, [], ◌∷◌, find, Option, Some, None, is_some, cond, unwrap_or, Result, Ok, Err, IfOk, refl, sym, ◌∙◌, ap}
 use Rattle.std.proofs.lemmas.List.Elements.{All-head, All-tail}
 use Rattle.std.specs.Option.{option_map}
 use Rattle.mesh_policy.specs.Connection.{offers_mesh_name, passage}
@@ -12,13 +12,15 @@ use Rattle.mesh_policy.specs.declared.peer.Mode.TheVariants.{Disable, Permissive
 use Rattle.mesh_policy.specs.declared.service.Protocol.{Protocol}
 use Rattle.mesh_policy.specs.declared.service.Protocol.TheVariants.{Tcp}
 use Rattle.mesh_policy.specs.declared.verdict.Verdict.{Verdict}
+use Rattle.mesh_text.specs.declared.memory.Memory.{Memory}
+use Rattle.envoy_types.specs.declared.chains.Listener.{Listener}
 use Rattle.envoy_types.specs.ListenerVerdict.{envoy_verdict, verdict_by}
 use Rattle.chain_build.specs.Buildable.{IsBuildable}
 use Rattle.chain_build.specs.Chains.{tcp_chain}
 use Rattle.chain_build.specs.Filters.{tcp_filters}
 use Rattle.chain_build.specs.Listener.{built}
 use Rattle.chain_build.proofs.Chosen.{chosen-chain, number_at}
-use Rattle.chain_build.proofs.Filters.{filters-decide}
+use Rattle.chain_build.proofs.FiltersDecide.{filters-decide}
 use Rattle.chain_build.proofs.Modes.{chain_for}
 
 abbrev IsTcp : ListedPort → Type 0
@@ -92,3 +94,10 @@ agree workload h rising case =
     ∙ ap (λ protocol. mesh.verdict_by workload case
     (mesh.arrival_on workload case protocol (mesh.known_peer protocol (passage (mode_of workload case.port) case.tls))))
     (sym (speaks-tcp workload h case.port))
+
+-- where there was memory
+pub agrees : (workload : Workload) → IsBuildable workload → AllPairs (λ port later. port.number < later.number) workload.ports
+    → (r : Result Listener Memory) → IfOk r (λ listener. listener ≡ built workload)
+    → IfOk r (λ listener. (case : Case) → envoy_verdict listener case ≡ mesh.verdict_of workload case)
+agrees workload h rising (Ok listener) e = λ case. ap (λ l. envoy_verdict l case) e ∙ agree workload h rising case
+agrees workload h rising (Err e) shape = tt

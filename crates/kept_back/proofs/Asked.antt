@@ -1,11 +1,11 @@
 -- What a policy or a Service asks of which nothing is kept back. The lemmas have the names of what they speak of.
-use Rattle.std.proofs.Common.{◌≡◌, ℕ, Bool, true, false, cond, not, ◌&&◌, List, [], ◌∷◌, Option, Some, None, All, IsTrue, refl, ap, subst}
+use Rattle.std.proofs.Common.{◌≡◌, ℕ, Bool, true, false, cond, not, ◌&&◌, List, [], Option, Some, None, All, refl, ap, subst}
 use Rattle.std.proofs.lemmas.List.Folds.{list_any_none}
 use Rattle.std.proofs.lemmas.List.Sums.{list_all-from_AllPass}
 use Rattle.std.proofs.lemmas.Slice.Eq.{bytes_eq-Decides}
 use Rattle.std.specs.List.{list_all, list_any}
 use Rattle.std.specs.Option.{ForSome}
-use Rattle.serde_json.specs.Data.{Data, null, boolean, number, string, array, object, Items, no_items, item}
+use Rattle.serde_json.specs.Data.{Data, null, boolean, number, string, array, object, no_items, item}
 use Rattle.mesh_doc.proofs.NoFault as no_fault
 use Rattle.mesh_doc.proofs.NoFault.{Ensures, earlier, later, listed, optional_or, passed}
 use Rattle.mesh_doc.specs.Faults.{first, none, unless}
@@ -22,7 +22,6 @@ use Rattle.manifest_json.specs.Service.{service_in, service_port_in, service_spe
 use Rattle.mesh_policy.specs.Ports.{is_http, protocol_of}
 use Rattle.mesh_policy.specs.RuleHolds.{operation_needs_http}
 use Rattle.mesh_policy.specs.Workload.{is_action}
-use Rattle.mesh_policy.specs.declared.policy.Action.{Action}
 use Rattle.mesh_policy.specs.declared.policy.Action.TheVariants.{Allow}
 use Rattle.mesh_policy.specs.declared.policy.AuthorizationPolicy.{AuthorizationPolicy}
 use Rattle.mesh_policy.specs.declared.policy.OperationSpec.{OperationSpec}
@@ -39,7 +38,7 @@ use Rattle.policy_json.specs.TargetRefs.{is_empty_list}
 use Rattle.authz_gen.specs.Operations.{asks_for_ports}
 use Rattle.kept_back.specs.Policies.{action_kept, is_allow_word, operation_kept, policy_kept, rule_kept, spec_kept, to_kept}
 use Rattle.kept_back.specs.Services.{port_kept, ports_kept, service_kept, speaks_http}
-use Rattle.kept_back.specs.Written.{unless_kept, unwritten}
+use Rattle.kept_back.specs.Fields.{unless_kept, no_entries}
 use Rattle.kept_back.specs.declared.items.TheConstants.{SPEC}
 use Rattle.kept_back.specs.declared.policies.TheConstants.{ACTION, ALLOW, RULES, FROM, TO, WHEN, OPERATION}
 use Rattle.kept_back.specs.declared.policies.TheConstants.{HOSTS, NOT_HOSTS, METHODS, NOT_METHODS, PATHS, NOT_PATHS}
@@ -62,8 +61,8 @@ none_found : {A : Type 0} (value : Data → A) (o : Option Data) (at : Steps)
 none_found value None at h = refl
 none_found value (Some d) at h = no_entry value d (passed (is_empty_list d) _ at h)
 
-none_written : {A : Type 0} (name : List ℕ) (value : Data → A) → Ensures (unwritten name) (listed_in name value) (λ xs. xs ≡ [])
-unfolding unwritten fields.optional listed_in
+none_written : {A : Type 0} (name : List ℕ) (value : Data → A) → Ensures (no_entries name) (listed_in name value) (λ xs. xs ≡ [])
+unfolding no_entries fields.optional listed_in
 none_written name value = record { holds = λ d at h. none_found value (field_in name d) (at_key name at) h }
 
 -- ---- policies
@@ -81,12 +80,12 @@ operation = record {
       let h3 = later _ _ h2 in
       let h4 = later _ _ h3 in
       without_request (operation_in d)
-        ((none_written HOSTS.now text_in).holds d at (earlier _ _ h))
-        ((none_written NOT_HOSTS.now text_in).holds d at (earlier _ _ h1))
-        ((none_written METHODS.now text_in).holds d at (earlier _ _ h2))
-        ((none_written NOT_METHODS.now text_in).holds d at (earlier _ _ h3))
-        ((none_written PATHS.now text_in).holds d at (earlier _ _ h4))
-        ((none_written NOT_PATHS.now text_in).holds d at (later _ _ h4));
+      ((none_written HOSTS.now text_in).holds d at (earlier _ _ h))
+      ((none_written NOT_HOSTS.now text_in).holds d at (earlier _ _ h1))
+      ((none_written METHODS.now text_in).holds d at (earlier _ _ h2))
+      ((none_written NOT_METHODS.now text_in).holds d at (earlier _ _ h3))
+      ((none_written PATHS.now text_in).holds d at (earlier _ _ h4))
+      ((none_written NOT_PATHS.now text_in).holds d at (later _ _ h4));
 }
 
 entry_of_to : Ensures to_kept to_in (λ o. operation_needs_http o ≡ false)
@@ -102,9 +101,9 @@ rule = record {
   holds = λ d at h.
       let behind = later _ _ h in
       of_ports (rule_in d)
-        ((none_written FROM.now from_in).holds d at (earlier _ _ h))
-        (list_any_none operation_needs_http _ ((listed TO.now 2048 entry_of_to).holds d at (earlier _ _ behind)).each)
-        ((none_written WHEN.now condition_in).holds d at (later _ _ behind));
+      ((none_written FROM.now from_in).holds d at (earlier _ _ h))
+      (list_any_none operation_needs_http _ ((listed TO.now 2048 entry_of_to).holds d at (earlier _ _ behind)).each)
+      ((none_written WHEN.now condition_in).holds d at (later _ _ behind));
 }
 
 allow_of : (word : List ℕ) → word ≡ ALLOW.now → action_of word ≡ Some Allow
@@ -128,8 +127,8 @@ unfolding spec_kept authorization_in
 spec name namespace = record {
   holds = λ d at h.
       of_allow (authorization_in name namespace d)
-        ((optional_or ACTION.now Allow refl action).holds d at (earlier _ _ h))
-        (list_all-from_AllPass asks_for_ports _ ((listed RULES.now 2048 rule).holds d at (later _ _ h)).each);
+      ((optional_or ACTION.now Allow refl action).holds d at (earlier _ _ h))
+      (list_all-from_AllPass asks_for_ports _ ((listed RULES.now 2048 rule).holds d at (later _ _ h)).each);
 }
 
 pub policy : Ensures policy_kept authorization_item_in (λ p. allows_ports p ≡ true)

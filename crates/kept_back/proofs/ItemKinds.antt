@@ -1,15 +1,13 @@
 -- Of the table of kinds, what says whether a listener is built for an item.
-use Rattle.std.proofs.Common.{◌≡◌, ℕ, Bool, true, false, cond, List, Option, Some, None, refl, ◌∙◌, ap}
-use Rattle.std.proofs.lemmas.Slice.Eq.{bytes_eq-Decides}
+use Rattle.std.proofs.Common.{◌≡◌, ℕ, Bool, true, false, cond, List, Some, None, refl}
 use Rattle.std.specs.Str.{bytes_eq}
 use Rattle.serde_json.specs.Data.{Data}
 use Rattle.mesh_doc.specs.Faults.{none}
 use Rattle.mesh_doc.specs.Places.{Steps}
 use Rattle.manifest_json.specs.KindTable.{core_kind, is_policy_version, kind_of, policy_kind}
-use Rattle.manifest_json.specs.declared.key.Kind.{Kind}
 use Rattle.manifest_json.specs.declared.key.Kind.TheVariants as kind
 use Rattle.kept_back.specs.Items.{kind_kept}
-use Rattle.kept_back.specs.declared.items.TheConstants.{CORE_V1, REQUEST_AUTHENTICATION}
+use Rattle.kept_back.specs.declared.items.TheConstants.{CORE_V1}
 
 pub of_policy : (version word : List ℕ) → is_policy_version version ≡ true → kind_of version word ≡ policy_kind word
 unfolding kind_of
@@ -33,6 +31,3 @@ pub of_other : (version word : List ℕ) (d : Data) (at : Steps) → is_policy_v
 unfolding kind_of
 of_other version word d at policy core =
     rw (policy, core) (other _ _ _ d at)
-
-pub is_request : (word : List ℕ) → bytes_eq word REQUEST_AUTHENTICATION.now ≡ true → policy_kind word ≡ Some kind.Request
-is_request word same = ap policy_kind ((bytes_eq-Decides word REQUEST_AUTHENTICATION.now).0 same)

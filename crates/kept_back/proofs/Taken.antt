@@ -5,7 +5,7 @@ use Rattle.std.proofs.lemmas.List.Sums.{list_all-from_AllPass}
 use Rattle.std.specs.List.{cons_option, list_all}
 use Rattle.serde_json.specs.Data.{Data}
 use Rattle.mesh_doc.proofs.NoFault.{Ensures, listed}
-use Rattle.mesh_doc.specs.Faults.{Faults, first}
+use Rattle.mesh_doc.specs.Faults.{first}
 use Rattle.mesh_doc.specs.Lists as lists
 use Rattle.mesh_doc.specs.Lists.{listed_in}
 use Rattle.mesh_doc.specs.Places.{Steps}

@@ -1,7 +1,7 @@
 -- A workload of such manifests is one that a listener is built for.
-use Rattle.std.proofs.Common.{◌≡◌, ℕ, ◌==◌, Bool, true, false, ◌&&◌, ◌||◌, List, [], ◌∷◌, ◌++◌, Option, Some, None, filter, filter_map, flat_map, option_map, Result, Ok, Err, All, refl, sym, ◌∙◌}
+use Rattle.std.proofs.Common.{◌≡◌, ℕ, ◌==◌, Bool, true, false, ◌&&◌, ◌||◌, List, [], ◌∷◌, Option, Some, None}
+use Rattle.std.proofs.Common.{filter, filter_map, flat_map, option_map, Result, Ok, Err, All, refl, sym, ◌∙◌}
 use Rattle.std.proofs.lemmas.List.Elements.{All-append, All-cons, All-filter, All-head, All-map, All-nil, All-tail}
-use Rattle.std.proofs.lemmas.List.Folds.{list_any_none}
 use Rattle.std.proofs.lemmas.List.Sums.{AllPass-from_list_all}
 use Rattle.std.specs.List.{cons_option, list_all}
 use Rattle.std.specs.Result.{IfOk}
@@ -11,7 +11,7 @@ use Rattle.mesh_doc.specs.Places.{Steps}
 use Rattle.manifest_json.specs.Document.{bundle_in}
 use Rattle.mesh_policy.proofs.Listed.{list_all-filter, list_all-in_order, list_all-weaker, left_of, right_of}
 use Rattle.mesh_policy.specs.Applying.{applies, authorization_of, comes_before}
-use Rattle.mesh_policy.specs.Ports.{GivenPort, given, given_by, gives_http, is_http, listed, protocol_at, protocol_of, selects, target_number}
+use Rattle.mesh_policy.specs.Ports.{GivenPort, given, given_by, gives_http, listed, protocol_at, protocol_of, selects, target_number}
 use Rattle.mesh_policy.specs.Workload.{is_action, policies_of, port_of, workload_of}
 use Rattle.mesh_policy.specs.declared.bundle.Bundle.{Bundle}
 use Rattle.mesh_policy.specs.declared.pod.Pod.{Pod}
@@ -106,7 +106,9 @@ none_custom (p ∷ ps) h =
 pub buildable : (bundle : Bundle) (pod : Pod) → IsTaken bundle → IsBuildable (workload_of bundle pod)
 unfolding workload_of
 buildable bundle pod t = record {
-  protocols = All-map (λ port. port.protocol ≡ Tcp) (port_of bundle pod) (listed bundle pod) (each_tcp bundle pod (listed bundle pod) t.services);
+  protocols =
+      let numbers = listed bundle pod in
+      All-map (λ port. port.protocol ≡ Tcp) (port_of bundle pod) numbers (each_tcp bundle pod numbers t.services);
   allow = ask_for_ports Allow bundle pod t.policies;
   deny = ask_for_ports Deny bundle pod t.policies;
   audit = ask_for_ports Audit bundle pod t.policies;

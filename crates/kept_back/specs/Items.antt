@@ -6,7 +6,7 @@ use Rattle.manifest_json.specs.declared.key.Kind.{Kind}
 use Rattle.manifest_json.specs.declared.key.Kind.TheVariants as kind
 use Rattle.kept_back.specs.Policies.{policy_kept}
 use Rattle.kept_back.specs.Services.{service_kept}
-use Rattle.kept_back.specs.Written.{whole_kept}
+use Rattle.kept_back.specs.Fields.{whole_kept}
 
 -- by its kind: a RequestAuthentication as a whole, and places of policies and Services
 abbrev pub kind_kept : Option Kind → Check

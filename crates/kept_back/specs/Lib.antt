@@ -1,8 +1,8 @@
+pub mod Fields
 pub mod Items
 pub mod Manifests
 pub mod Policies
 pub mod Services
-pub mod Written
 pub use Rattle.chain_build.specs.Buildable
 pub use Rattle.manifest_json.specs.Document
 pub use Rattle.mesh_doc.specs.Faults

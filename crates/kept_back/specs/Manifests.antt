@@ -1,11 +1,10 @@
 -- Which manifests no listener is built for yet, and the first place where it shows. It is asked of a document without
 -- fault.
-use Rattle.std.specs.Prelude.{List, [], Option, option_map, if◌then◌else◌}
+use Rattle.std.specs.Prelude.{[], Option, option_map, if◌then◌else◌}
 use Rattle.serde_json.specs.Data.{Data}
 use Rattle.mesh_doc.specs.Faults.{Check, first}
 use Rattle.mesh_doc.specs.Lists.{listed}
 use Rattle.mesh_doc.specs.Places.{Steps}
-use Rattle.mesh_doc.specs.declared.fault.Fault.{Fault}
 use Rattle.manifest_json.specs.Document.{is_list}
 use Rattle.kept_back.specs.Items.{item_kept}
 use Rattle.kept_back.specs.declared.manifests.TheConstants.{ITEMS}

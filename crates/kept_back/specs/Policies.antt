@@ -6,7 +6,7 @@ use Rattle.mesh_doc.specs.Faults.{Check, ◌⨾◌}
 use Rattle.mesh_doc.specs.Fields.{optional, or_empty}
 use Rattle.mesh_doc.specs.Kinds.{text_in}
 use Rattle.mesh_doc.specs.Lists.{listed}
-use Rattle.kept_back.specs.Written.{unless_kept, unwritten}
+use Rattle.kept_back.specs.Fields.{unless_kept, no_entries}
 use Rattle.kept_back.specs.declared.items.TheConstants.{SPEC}
 use Rattle.kept_back.specs.declared.policies.TheConstants.{ACTION, ALLOW, RULES, FROM, TO, WHEN, OPERATION}
 use Rattle.kept_back.specs.declared.policies.TheConstants.{HOSTS, NOT_HOSTS, METHODS, NOT_METHODS, PATHS, NOT_PATHS}
@@ -14,9 +14,9 @@ use Rattle.kept_back.specs.declared.policies.TheConstants.{HOSTS, NOT_HOSTS, MET
 -- what only a request has: hosts, methods and paths, and their negative lists
 unfoldable pub operation_kept : Check
 operation_kept =
-    unwritten HOSTS.now ⨾ unwritten NOT_HOSTS.now
-    ⨾ unwritten METHODS.now ⨾ unwritten NOT_METHODS.now
-    ⨾ unwritten PATHS.now ⨾ unwritten NOT_PATHS.now
+    no_entries HOSTS.now ⨾ no_entries NOT_HOSTS.now
+    ⨾ no_entries METHODS.now ⨾ no_entries NOT_METHODS.now
+    ⨾ no_entries PATHS.now ⨾ no_entries NOT_PATHS.now
 
 -- an entry of `to`
 unfoldable pub to_kept : Check
@@ -24,7 +24,7 @@ to_kept = or_empty OPERATION.now operation_kept
 
 -- Sources and conditions as wholes, so that nothing inside them is looked at.
 unfoldable pub rule_kept : Check
-rule_kept = unwritten FROM.now ⨾ listed TO.now 2048 to_kept ⨾ unwritten WHEN.now
+rule_kept = no_entries FROM.now ⨾ listed TO.now 2048 to_kept ⨾ no_entries WHEN.now
 
 -- the word `ALLOW`
 unfoldable pub is_allow_word : Data → Bool

@@ -8,7 +8,7 @@ use Rattle.mesh_doc.specs.Kinds.{text_in}
 use Rattle.mesh_doc.specs.Lists.{listed}
 use Rattle.manifest_json.specs.Ports.{has_other_protocol, unless_passed}
 use Rattle.mesh_policy.specs.Ports.{is_http, protocol_by}
-use Rattle.kept_back.specs.Written.{unless_kept}
+use Rattle.kept_back.specs.Fields.{unless_kept}
 use Rattle.kept_back.specs.declared.items.TheConstants.{SPEC}
 use Rattle.kept_back.specs.declared.services.TheConstants.{PORTS, NAME, APP_PROTOCOL}
 

@@ -5,7 +5,7 @@ ghost use Rattle.mesh_doc.specs.Faults.{Reads};
 ghost use Rattle.mesh_doc.specs.Fields.{required_in};
 ghost use Rattle.mesh_doc.specs.Kinds.{text_in};
 ghost use Rattle.policy_json.specs.TargetRefs.{has_no_entry, is_empty_list};
-ghost use Rattle.kept_back.specs.Written.{unless_kept, unwritten};
+ghost use Rattle.kept_back.specs.Fields.{unless_kept, no_entries};
 
 use mesh_doc::{DocError, Form, Reason, Spot, field, optional};
 use serde_json::Value;
@@ -23,9 +23,9 @@ pub(crate) fn text_at<'a>(v: &'a Value, name: &str) -> &'a str
 }
 
 /// Tells the field `name` of the object `v` at `at` where it has an entry.
-#[tactic(auto, unfolding(crate::specs::Written::unwritten))]
+#[tactic(auto, unfolding(crate::specs::Fields::no_entries))]
 pub(crate) fn no_entries(alloc: Global, v: &Value, name: &str, at: &Spot) -> Result<(), DocError>
-    ensures { Reads result (unwritten name.now (view v.now) at.now) tt }
+    ensures { Reads result (no_entries name.now (view v.now) at.now) tt }
 {
     optional::<EmptyList>(alloc, v, name, at)?;
     Ok(())

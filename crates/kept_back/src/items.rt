@@ -47,13 +47,7 @@ impl Form for ItemEntry {
 }
 
 #[tactic(auto, using(crate::proofs::ItemKinds::of_policy, crate::proofs::ItemKinds::of_core, crate::proofs::ItemKinds::of_other))]
-fn read_kind(
-    alloc: Global,
-    version: &str,
-    kind: &str,
-    v: &Value,
-    at: &Spot,
-) -> Result<(), DocError>
+fn read_kind(alloc: Global, version: &str, kind: &str, v: &Value, at: &Spot) -> Result<(), DocError>
     ensures { Reads result (kind_kept (table.kind_of version.now kind.now) (view v.now) at.now) tt }
 {
     if is_policy_version(version) {
@@ -71,7 +65,6 @@ fn is_policy_version(version: &str) -> bool
     version == ISTIO_V1 || version == ISTIO_V1BETA1
 }
 
-#[tactic(auto, using(crate::proofs::ItemKinds::is_request))]
 fn read_policy_kind(alloc: Global, kind: &str, v: &Value, at: &Spot) -> Result<(), DocError>
     ensures { Reads result (kind_kept (table.policy_kind kind.now) (view v.now) at.now) tt }
 {

@@ -1,13 +1,11 @@
 // Services: the ports that carry HTTP.
 ghost use Rattle.std.specs.Prelude.{◌≡◌, option_map};
-ghost use Rattle.std.specs.List.{list_any};
-ghost use Rattle.std.specs.Str.{bytes_eq, str_to_ascii_lowercase};
 ghost use Rattle.serde_json.specs.View.{view};
 ghost use Rattle.manifest_json.specs.Ports.{has_other_protocol};
 ghost use Rattle.mesh_doc.specs.Faults.{Reads};
 ghost use Rattle.mesh_doc.specs.Fields.{optional_in};
 ghost use Rattle.mesh_doc.specs.Kinds.{text_in};
-ghost use Rattle.mesh_policy.specs.Ports.{front_of, http_names, is_http, protocol_named};
+ghost use Rattle.mesh_policy.specs.Ports.{front_of, is_http, protocol_named};
 ghost use Rattle.kept_back.specs.Services.{port_kept, ports_kept, service_kept, speaks_http};
 
 use crate::items::SPEC;
@@ -115,12 +113,6 @@ fn front_of(name: &str) -> &str
 
 fn carries_http(name: &str) -> bool
     ensures { result ≡ is_http (protocol_named name.now) }
-{
-    is_http_name(name)
-}
-
-fn is_http_name(name: &str) -> bool
-    ensures { result ≡ list_any (bytes_eq (str_to_ascii_lowercase name.now)) http_names }
 {
     eq_fold(name, "http")
         || eq_fold(name, "http2")

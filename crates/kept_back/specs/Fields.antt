@@ -16,5 +16,5 @@ abbrev pub unless_kept : (Data → Bool) → Check
 unless_kept test = demands test UnknownField
 
 -- one is built where a list of the object has no entry: it is absent, `null` or empty
-unfoldable pub unwritten : List ℕ → Check
-unwritten name = optional name (unless_kept is_empty_list)
+unfoldable pub no_entries : List ℕ → Check
+no_entries name = optional name (unless_kept is_empty_list)

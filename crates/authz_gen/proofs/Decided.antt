@@ -1,5 +1,5 @@
 -- The filter of the policies of an action decides a TCP connection as their rules do.
-use Rattle.std.proofs.Common.{◌≡◌, ℕ, ◌+◌, Bool, true, false, ◌||◌, All, IsTrue, List, [], ◌∷◌, ◌++◌, map, Option, Some, None, is_some, cond, refl, sym, subst, ◌∙◌, ap}
+use Rattle.std.proofs.Common.{◌≡◌, ℕ, ◌+◌, Bool, true, false, ◌||◌, All, IsTrue, List, [], ◌∷◌, ◌++◌, map, Option, Some, None, is_some, cond, refl, sym, ◌∙◌, ap}
 use Rattle.std.proofs.lemmas.Bool.{and_parts}
 use Rattle.std.proofs.lemmas.List.Elements.{All-head, All-tail}
 use Rattle.std.proofs.lemmas.List.Folds.{list_any-append}
@@ -15,7 +15,6 @@ use Rattle.mesh_policy.specs.declared.policy.AuthorizationPolicy.{AuthorizationP
 use Rattle.mesh_policy.specs.declared.policy.Rule.{Rule}
 use Rattle.mesh_policy.specs.declared.service.Protocol.TheVariants.{Tcp}
 use Rattle.envoy_types.specs.Access.{Rules, action_marks, action_passes, effective, first_position, policy_holds}
-use Rattle.envoy_types.specs.declared.access.RbacAction.{RbacAction}
 use Rattle.envoy_types.specs.declared.access.RbacPolicy.{RbacPolicy}
 use Rattle.authz_gen.specs.Operations.{asks_for_ports}
 use Rattle.authz_gen.specs.Policies.{DecidesTcp, name_before, policies_tcp, rbac_action, tcp_rbac, rule_policies_tcp, rule_policy_tcp}
@@ -80,13 +79,3 @@ decides action policies h =
       passes = λ case seen. ap (action_passes (rbac_action action)) (is_some-effective rules case seen ∙ policies-hold case seen policies h);
       marks = λ case seen. ap (action_marks (rbac_action action)) (is_some-effective rules case seen ∙ policies-hold case seen policies h);
     }
-
--- the same of the filter that is made of these parts
-pub decides-made : (action : Action) (policies : List AuthorizationPolicy) → All AsksForPorts policies
-    → (a : RbacAction) (made : List RbacPolicy) (prefix : List ℕ) → a ≡ rbac_action action → made ≡ policies_tcp policies → prefix ≡ []
-    → DecidesTcp (record { rules = Some (record { action = a; policies = made }); shadow = None; shadow_prefix = prefix }) action policies
-unfolding tcp_rbac
-decides-made action policies h a made prefix same given empty =
-    let filter : record { rules = Some (record { action = a; policies = made }); shadow = None; shadow_prefix = prefix } ≡ tcp_rbac action policies =
-        λ i. record { rules = Some (record { action = same i; policies = given i }); shadow = None; shadow_prefix = empty i } in
-    subst (λ f. DecidesTcp f action policies) (sym filter) (decides action policies h)

@@ -1,6 +1,10 @@
 pub mod Apart
 pub mod Decided
 pub mod InOrder
+pub mod Made
 pub mod Names
+pub mod Printable
 pub mod RuleHolds
 pub mod TreeHolds
+pub mod TreePrintable
+pub mod Widths

@@ -1,6 +1,8 @@
 // The filter of role-based access control that enforces the policies of one action on TCP connections.
-ghost use Rattle.std.specs.Prelude.{◌≡◌, ◌++◌, flat_map, IfOk, OnOk};
+ghost use Rattle.std.specs.Prelude.{◌≡◌, ◌++◌, [], false, flat_map, IfOk, IsTrue, OnOk};
 ghost use Rattle.mesh_policy.specs.Explanation as explanation;
+ghost use Rattle.mesh_policy.specs.Sizes.{is_over_limit, size_of};
+ghost use Rattle.envoy_types.specs.RbacForms.{rbac_is_printable};
 ghost use Rattle.authz_gen.specs.Policies as meaning;
 ghost use Rattle.authz_gen.specs.Policies.{AreTcpPolicies, DecidesTcp};
 
@@ -13,7 +15,7 @@ use mesh_tree::Tree;
 use std::alloc::Global;
 
 /// The filter of the policies of an action on a TCP port. It has one policy a rule, under the rule's name, which holds
-/// exactly where the rule does.
+/// exactly where the rule does. Of policies that keep the limits of a workload it can be written as JSON.
 #[tactic(auto, unfolding(crate::specs::Policies::tcp_rbac))]
 pub fn tcp_rbac(
     alloc: Global,
@@ -23,6 +25,7 @@ pub fn tcp_rbac(
     requires { AreTcpPolicies action policies.now }
     ensures shape { IfOk result (λ filter. filter ≡ meaning.tcp_rbac action policies.now) }
     ensures meaning { IfOk result (λ filter. DecidesTcp filter action policies.now) }
+    ensures printable { IfOk result (λ filter. is_over_limit (size_of policies.now []) ≡ false → IsTrue (rbac_is_printable filter)) }
 {
     let policies = policies_tcp(alloc, policies)?;
     let rules = RbacRules {

@@ -1,8 +1,14 @@
+pub mod BuiltPrintable
 pub mod Chosen
 pub mod Enforced
 pub mod FiltersDecide
 pub mod Modes
 pub mod Numbers
+pub mod PortNumbers
 pub mod Ports
+pub mod Printable
 pub mod Pruned
+pub mod Shallow
+pub mod Small
+pub mod TreesSmall
 pub mod Verdict

@@ -8,6 +8,8 @@ mod call;
 mod copies;
 mod documents;
 mod forms;
+mod listener_rules;
+mod listeners;
 mod lists;
 mod manifests;
 mod matchers;
@@ -22,6 +24,7 @@ mod sources;
 mod specs_of_policies;
 mod stop;
 mod texts;
+mod token_filters;
 mod tokens;
 mod trees;
 
@@ -127,6 +130,9 @@ fn of_wholes(alloc: Global, call: &Call) -> Result<Option<String>, Stop> {
         return Ok(Some(answer));
     }
     if let Some(answer) = matchers::answer(alloc, call)? {
+        return Ok(Some(answer));
+    }
+    if let Some(answer) = listeners::answer(alloc, call)? {
         return Ok(Some(answer));
     }
     match call.name {

@@ -22,7 +22,8 @@ pub fn answer(alloc: Global, call: &Call) -> Result<Option<String>, Stop> {
     }
 }
 
-fn matcher(alloc: Global, call: &Call) -> Result<StringMatcher, Stop> {
+/// The matcher of the first two arguments.
+pub fn matcher(alloc: Global, call: &Call) -> Result<StringMatcher, Stop> {
     let text = call.text(0)?;
     if text.is_empty() {
         return Err(Stop::Arguments);

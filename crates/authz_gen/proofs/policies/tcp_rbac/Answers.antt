@@ -1,9 +1,12 @@
--- The names rise, and the filter decides as the rules do, by what is asked of the policies.
-use Rattle.std.proofs.Common.{ap, ◌∙◌}
+-- The names rise, and the filter is that of the definition, which decides as the rules do and can be written.
+use Rattle.std.proofs.Common.{[], ap, subst, sym, ◌∙◌}
 use Rattle.envoy_types.specs.Order.{names_rise}
-use Rattle.authz_gen.specs.Policies.{policies_tcp}
+use Rattle.envoy_types.specs.RbacForms.{rbac_is_printable}
+use Rattle.authz_gen.specs.Policies.{DecidesTcp, policies_tcp}
 use Rattle.authz_gen.proofs.Apart.{names-rise}
-use Rattle.authz_gen.proofs.Decided.{decides-made}
+use Rattle.authz_gen.proofs.Decided.{decides}
+use Rattle.authz_gen.proofs.Made.{made-is}
+use Rattle.authz_gen.proofs.Printable.{filter-fits, small-part}
 use Rattle.authz_gen.proofs.policies.tcp_rbac.Goals as goal
 
 pub invariant_of-rules : goal.invariant_of-rules
@@ -13,5 +16,14 @@ invariant_of-rules c =
 
 pub returns-clause-meaning : goal.returns-clause-meaning
 returns-clause-meaning c =
-    decides-made c.args.action c.args.policies.now c.requires.ports c.rbac_action.result c.in_ok-policies.policies c.in_ok-of.field-0
-    c.rbac_action.ensures (c.in_ok-policies.ensures ∙ ap policies_tcp c.deref.ensures) c.in_ok-of.ensures
+    subst (λ filter. DecidesTcp filter c.args.action c.args.policies.now)
+    (sym (made-is c.args.action c.args.policies.now c.rbac_action.result c.in_ok-policies.policies c.in_ok-of.field-0
+    c.rbac_action.ensures (c.in_ok-policies.ensures ∙ ap policies_tcp c.deref.ensures) c.in_ok-of.ensures))
+    (decides c.args.action c.args.policies.now c.requires.ports)
+
+pub returns-clause-printable : goal.returns-clause-printable
+returns-clause-printable c =
+    λ small. ap rbac_is_printable
+    (made-is c.args.action c.args.policies.now c.rbac_action.result c.in_ok-policies.policies c.in_ok-of.field-0
+    c.rbac_action.ensures (c.in_ok-policies.ensures ∙ ap policies_tcp c.deref.ensures) c.in_ok-of.ensures)
+    ∙ filter-fits c.args.action c.args.policies.now c.requires (small-part c.args.policies.now [] small)

@@ -95,7 +95,7 @@ operation-at [] [] hv hn fv fn = (printable-Any permission_form, omega (arith, o
 operation-at (v ∷ vs) [] hv hn fv fn =
     let one = or_of (map port_tree (v ∷ vs)) in
     let shape : all_of (field_of (map port_tree (v ∷ vs)) []) ≡ one =
-        ap (λ ts. all_of (ts ++ [])) (if_any-some or_of (port_tree v) (map port_tree vs)) ∙ all_of-some one [] in
+    ap (λ ts. all_of (ts ++ [])) (if_any-some or_of (port_tree v) (map port_tree vs)) ∙ all_of-some one [] in
     let width : or_width one ≡ total or_width (map port_tree (v ∷ vs)) = or_width-joined (map port_tree (v ∷ vs)) (omega arith) in
     let ports = ports-or_width (v ∷ vs) in
     let most : or_width one ≤ 1 + length (v ∷ vs) = omega (arith, width, ports) in
@@ -103,28 +103,26 @@ operation-at (v ∷ vs) [] hv hn fv fn =
 operation-at [] (n ∷ ns) hv hn fv fn =
     let none = none_of (map port_tree (n ∷ ns)) in
     let shape : all_of (field_of [] (map port_tree (n ∷ ns))) ≡ none =
-        ap all_of (if_any-some none_of (port_tree n) (map port_tree ns)) ∙ all_of-some none [] in
-    let most : or_width none ≤ 1 + 0 = omega (arith, or_width-Not (or_of (map port_tree (n ∷ ns)))) in
-    (
+    ap all_of (if_any-some none_of (port_tree n) (map port_tree ns)) ∙ all_of-some none [] in
+    let most : or_width none ≤ 1 + 0 = omega (arith, or_width-Not (or_of (map port_tree (n ∷ ns)))) in (
       ap fits shape ∙ printable-Not permission_form (or_of (map port_tree (n ∷ ns))) ∙ one-port n ns hn fn,
-      subst (λ t. or_width t ≤ 1 + 0) (sym shape) most
+      subst (λ t. or_width t ≤ 1 + 0) (sym shape) most,
     )
 operation-at (v ∷ vs) (n ∷ ns) hv hn fv fn =
     let one = or_of (map port_tree (v ∷ vs)) in
     let none = none_of (map port_tree (n ∷ ns)) in
     let shape : all_of (field_of (map port_tree (v ∷ vs)) (map port_tree (n ∷ ns))) ≡ and_of (one ∷ none ∷ []) =
-        ap₂ (λ ts us. all_of (ts ++ us)) (if_any-some or_of (port_tree v) (map port_tree vs))
-        (if_any-some none_of (port_tree n) (map port_tree ns)) ∙ all_of-some one (none ∷ []) in
+    ap₂ (λ ts us. all_of (ts ++ us)) (if_any-some or_of (port_tree v) (map port_tree vs))
+    (if_any-some none_of (port_tree n) (map port_tree ns)) ∙ all_of-some one (none ∷ []) in
     let first : and_width one ≡ 1 = and_width-or (map port_tree (v ∷ vs)) (omega arith) (ports-and_width (v ∷ vs)) in
     let second : and_width none ≡ 1 = and_width-Not (or_of (map port_tree (n ∷ ns))) in
     let fit : list_all fits (one ∷ none ∷ []) ≡ true =
-        and_from _ _ (one-port v vs hv fv)
-        (and_from _ _ (printable-Not permission_form (or_of (map port_tree (n ∷ ns))) ∙ one-port n ns hn fn) refl) in
+    and_from _ _ (one-port v vs hv fv)
+    (and_from _ _ (printable-Not permission_form (or_of (map port_tree (n ∷ ns))) ∙ one-port n ns hn fn) refl) in
     let most : or_width (and_of (one ∷ none ∷ [])) ≤ 1 + length (v ∷ vs) =
-        omega (arith, or_width-And (flat_map and_entries (one ∷ none ∷ []))) in
-    (
+    omega (arith, or_width-And (flat_map and_entries (one ∷ none ∷ []))) in (
       ap fits shape ∙ printable-and_of permission_form (one ∷ none ∷ []) (omega arith) fit (omega (arith, first, second)),
-      subst (λ t. or_width t ≤ 1 + length (v ∷ vs)) (sym shape) most
+      subst (λ t. or_width t ≤ 1 + length (v ∷ vs)) (sym shape) most,
     )
 
 operation-fits : (o : OperationSpec) → AcceptedOperation o → (fits (operation_tcp o) ≡ true) × (or_width (operation_tcp o) ≤ 1 + length o.ports)
@@ -148,8 +146,8 @@ operations-width [] h = omega arith
 operations-width (o ∷ os) h =
     let first : or_width (operation_tcp o) ≤ 1 + length o.ports = (operation-fits o (All-head Accepted o os h)).1 in
     let rest : total or_width (map operation_tcp os)
-        ≤ (sizes.sum_of (map operation_size os)).entries + (sizes.sum_of (map operation_size os)).values =
-        operations-width os (All-tail Accepted o os h) in
+    ≤ (sizes.sum_of (map operation_size os)).entries + (sizes.sum_of (map operation_size os)).values =
+    operations-width os (All-tail Accepted o os h) in
     let entry : 1 ≤ (operation_size o).entries = omega arith in
     let values : length o.ports ≤ (operation_size o).values = omega arith in
     omega (arith, first, rest, entry, values)
@@ -165,7 +163,7 @@ permission-at [] h small = printable-Any permission_form
 permission-at (o ∷ os) h small =
     let one = or_of (map operation_tcp (o ∷ os)) in
     let shape : all_of (if_any or_of (map operation_tcp (o ∷ os))) ≡ one =
-        ap all_of (if_any-some or_of (operation_tcp o) (map operation_tcp os)) ∙ all_of-some one [] in
+    ap all_of (if_any-some or_of (operation_tcp o) (map operation_tcp os)) ∙ all_of-some one [] in
     let width = operations-width (o ∷ os) h in
     ap fits shape
     ∙ printable-or_of permission_form (map operation_tcp (o ∷ os)) (omega arith) (operations-fit (o ∷ os) h)
@@ -175,7 +173,7 @@ pub permission-fits : (rule : Rule) → AcceptedRule rule → IsSmall (rule_size
 unfolding permission_tcp
 permission-fits rule h small =
     let part : IsSmall (sizes.sum_of (map operation_size rule.operations)) =
-        record { values = omega (arith, small.values); entries = omega (arith, small.entries) } in
+    record { values = omega (arith, small.values); entries = omega (arith, small.entries) } in
     permission-at rule.operations h.operations.each part
 
 -- ---- the filter

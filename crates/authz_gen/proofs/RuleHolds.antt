@@ -108,6 +108,6 @@ module _ (case : Case) (seen : Seen) where
       → policy_holds (rule_policy_tcp policy (index, rule)) case seen ≡ rules.rule_holds_tcp case seen a rule
   rule-holds policy index a rule h =
       let fields = and_parts (not (rules.is_written rule.sources) && not (rules.is_written rule.conditions))
-          (not (list_any rules.operation_needs_http rule.operations)) h in
+      (not (list_any rules.operation_needs_http rule.operations)) h in
       let parts = and_parts (not (rules.is_written rule.sources)) (not (rules.is_written rule.conditions)) fields.0 in
       rule-at policy index a rule.sources rule.operations rule.conditions parts.0 parts.1 fields.1

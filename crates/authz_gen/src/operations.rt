@@ -35,10 +35,7 @@ fn operation_trees(
 
 // All fields of an operation that a connection has.
 #[tactic(auto, unfolding(crate::specs::Operations::operation_tcp))]
-fn operation_tcp(
-    alloc: Global,
-    operation: &OperationSpec,
-) -> Result<Tree<PermissionLeaf>, Memory>
+fn operation_tcp(alloc: Global, operation: &OperationSpec) -> Result<Tree<PermissionLeaf>, Memory>
     ensures { IfOk result (λ t. t ≡ meaning.operation_tcp operation.now) }
 {
     let ports = port_trees(alloc, &operation.ports)?;

@@ -51,10 +51,7 @@ fn rbac_action(action: Action) -> RbacAction
 }
 
 #[tactic(auto, unfolding(crate::specs::Policies::policies_tcp))]
-fn policies_tcp(
-    alloc: Global,
-    policies: &[AuthorizationPolicy],
-) -> Result<List<RbacPolicy>, Memory>
+fn policies_tcp(alloc: Global, policies: &[AuthorizationPolicy]) -> Result<List<RbacPolicy>, Memory>
     ensures { IfOk result (λ ps. ps ≡ meaning.policies_tcp policies.now) }
 {
     let found = rule_policies(alloc, policies)?;

@@ -1,19 +1,20 @@
 -- The listener that is built of a workload within its limits can be written.
-use Rattle.std.proofs.Common.{◌≡◌, ℕ, ◌+◌, ◌<◌, ◌≤◌, ◌==◌, Bool, true, false, ◌&&◌, All, IsTrue, List, [], ◌∷◌, ◌++◌, length, map, cond, refl, sym, ◌∙◌, ap, arith, length-append}
+use Rattle.std.proofs.Common.{◌≡◌, ℕ, ◌+◌, ◌<◌, ◌≤◌, ◌==◌, Bool, true, false, ◌&&◌, IsTrue, List, [], ◌∷◌, ◌++◌, length, map, cond, Result, Ok, Err, IfOk, refl, sym, ◌∙◌, ap, arith, length-append}
 use Rattle.std.proofs.lemmas.List.{map-append}
 use Rattle.std.proofs.Math.Dec.{eqb-suc-zero}
 use Rattle.std.proofs.lemmas.Bool.{and_from, le-leb}
 use Rattle.std.proofs.lemmas.List.Folds.{list_all-append}
 use Rattle.std.specs.List.{list_all}
 use Rattle.mesh_policy.specs.Sizes.{Size, policy_size, sum_of}
-use Rattle.mesh_policy.specs.Values.{is_port}
 use Rattle.mesh_policy.specs.Workload.{Workload}
 use Rattle.mesh_policy.specs.declared.policy.Action.{Action}
 use Rattle.mesh_policy.specs.declared.policy.Action.TheVariants.{Allow, Deny, Audit}
 use Rattle.mesh_policy.specs.declared.policy.AuthorizationPolicy.{AuthorizationPolicy}
 use Rattle.mesh_select.specs.Workload.{KeepsLimits}
+use Rattle.mesh_text.specs.declared.memory.Memory.{Memory}
 use Rattle.envoy_types.specs.FilterForms.{filters_are_printable, network_filter_is_printable}
 use Rattle.envoy_types.specs.ListenerForms.{is_printable}
+use Rattle.envoy_types.specs.declared.chains.Listener.{Listener}
 use Rattle.envoy_types.specs.declared.chains.NetworkFilter.{NetworkFilter}
 use Rattle.envoy_types.specs.declared.chains.NetworkFilter.TheVariants as filter
 use Rattle.authz_gen.specs.Policies.{AreTcpPolicies, tcp_rbac}
@@ -41,12 +42,11 @@ small-parts : (xs ys : List AuthorizationPolicy) → IsSmall (size (xs ++ ys)) �
 small-parts xs ys small =
     let parts : map policy_size (xs ++ ys) ≡ map policy_size xs ++ map policy_size ys = map-append policy_size xs ys in
     let values : (size (xs ++ ys)).values ≡ (size xs).values + (size ys).values =
-        ap (λ ss. (sum_of ss).values) parts ∙ values-append (map policy_size xs) (map policy_size ys) in
+    ap (λ ss. (sum_of ss).values) parts ∙ values-append (map policy_size xs) (map policy_size ys) in
     let entries : (size (xs ++ ys)).entries ≡ (size xs).entries + (size ys).entries =
-        ap (λ ss. (sum_of ss).entries) parts ∙ entries-append (map policy_size xs) (map policy_size ys) in
-    (
+    ap (λ ss. (sum_of ss).entries) parts ∙ entries-append (map policy_size xs) (map policy_size ys) in (
       record { values = omega (arith, small.values, values); entries = omega (arith, small.entries, entries) },
-      record { values = omega (arith, small.values, values); entries = omega (arith, small.entries, entries) }
+      record { values = omega (arith, small.values, values); entries = omega (arith, small.entries, entries) },
     )
 
 -- ---- filters
@@ -60,7 +60,7 @@ unfolding network_filter_is_printable
 filter-list action [] h small = (omega arith, refl)
 filter-list action (p ∷ ps) h small =
     let one : filters_for action (p ∷ ps) ≡ filter.Rbac (tcp_rbac action (p ∷ ps)) ∷ [] =
-        ap (λ b. cond b [] (filter.Rbac (tcp_rbac action (p ∷ ps)) ∷ [])) (eqb-suc-zero (length ps)) in
+    ap (λ b. cond b [] (filter.Rbac (tcp_rbac action (p ∷ ps)) ∷ [])) (eqb-suc-zero (length ps)) in
     let count : length (filters_for action (p ∷ ps)) ≡ 1 = ap length one in
     (omega (arith, count), ap (list_all network_filter_is_printable) one ∙ and_from _ _ (filter-fits action (p ∷ ps) h small) refl)
 
@@ -86,12 +86,17 @@ filters-fit workload limits h =
 
 -- ---- the listener
 
-pub built-printable : (workload : Workload) → KeepsLimits workload → IsBuildable workload
-    → All (λ port. IsTrue (is_port port.number)) workload.ports → is_printable (built workload) ≡ true
+pub built-printable : (workload : Workload) → KeepsLimits workload → IsBuildable workload → is_printable (built workload) ≡ true
 unfolding is_printable built chains_with
-built-printable workload limits h ports =
+built-printable workload limits h =
     let filters = tcp_filters workload in
     let count = all-count filters workload.other_mode workload.ports limits.ports in
     and_from _ _ (and_from _ _ (and_from _ _ refl (and_from _ _ (le-leb 1 _ count.0) (le-leb _ 2048 (omega (arith, count.1)))))
-    (all-fit filters (filters-fit workload limits h) workload.other_mode workload.ports ports))
+    (all-fit filters (filters-fit workload limits h) workload.other_mode workload.ports limits.numbers))
     (all-distinct filters workload.other_mode workload.ports limits.rising)
+
+-- where there was memory
+pub can-be-written : (workload : Workload) → KeepsLimits workload → IsBuildable workload
+    → (r : Result Listener Memory) → IfOk r (λ listener. listener ≡ built workload) → IfOk r (λ listener. IsTrue (is_printable listener))
+can-be-written workload limits h (Ok listener) e = ap is_printable e ∙ built-printable workload limits h
+can-be-written workload limits h (Err e) shape = tt

@@ -155,8 +155,10 @@ module _ (p : ℕ) (filters : List NetworkFilter) where
       ∙ at (find is_it ports) (named-listed ports h) where
         others : List FilterChain
         others = tcp_chains other None filters
+
         whole : List FilterChain
         whole = listed ports ++ others
+
         at : (found : Option ListedPort) → filter names (listed ports) ≡ chains_found found
             → cond (is_some found) (filter names (listed ports ++ tcp_chains other None filters)) (filter is_open (listed ports ++ tcp_chains other None filters))
             ≡ left_for other found

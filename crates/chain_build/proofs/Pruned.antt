@@ -113,10 +113,9 @@ behind-front (d ∷ front) c rest = behind-front front c rest
 stand-placed : (front rest : List FilterChain) (k : ℕ) → k ≡ length front → Stand (front ++ rest) (placed_from k rest)
 stand-placed front [] k e = tt
 stand-placed front (c ∷ rest) k e =
-    let next : k + 1 ≡ length (front ++ c ∷ []) = omega (arith, e, length-append front (c ∷ [])) in
-    (
+    let next : k + 1 ≡ length (front ++ c ∷ []) = omega (arith, e, length-append front (c ∷ [])) in (
       ap (slice_get (front ++ c ∷ rest)) e ∙ behind-front front c rest,
-      subst (λ chains. Stand chains (placed_from (k + 1) rest)) (append_assoc front (c ∷ []) rest) (stand-placed (front ++ c ∷ []) rest (k + 1) next)
+      subst (λ chains. Stand chains (placed_from (k + 1) rest)) (append_assoc front (c ∷ []) rest) (stand-placed (front ++ c ∷ []) rest (k + 1) next),
     )
 
 first-stands : (chains : List FilterChain) (placed : List Placed) → Stand chains placed

@@ -44,7 +44,11 @@ pub fn push_chains(
 }
 
 // Mutual TLS of every client.
-fn strict_chain(alloc: Global, workload: &Workload, port: Option<u16>) -> Result<FilterChain, Memory>
+fn strict_chain(
+    alloc: Global,
+    workload: &Workload,
+    port: Option<u16>,
+) -> Result<FilterChain, Memory>
     requires { IsBuildable workload.now }
     ensures { IfOk result (λ c. c ≡ meaning.tcp_chain port (codes "-mtls") (Some transport.Tls) [] true (filters_of workload.now)) }
 {
@@ -53,7 +57,11 @@ fn strict_chain(alloc: Global, workload: &Workload, port: Option<u16>) -> Result
 }
 
 // Mutual TLS of the sidecars of the mesh.
-fn mutual_chain(alloc: Global, workload: &Workload, port: Option<u16>) -> Result<FilterChain, Memory>
+fn mutual_chain(
+    alloc: Global,
+    workload: &Workload,
+    port: Option<u16>,
+) -> Result<FilterChain, Memory>
     requires { IsBuildable workload.now }
     ensures { IfOk result (λ c. c
         ≡ meaning.tcp_chain port (codes "-mtls") (Some transport.Tls) connection.mesh_names true (filters_of workload.now)) }
@@ -73,7 +81,11 @@ fn plain_chain(alloc: Global, workload: &Workload, port: Option<u16>) -> Result<
 }
 
 // TLS that no other chain takes, which is passed on unread.
-fn opaque_chain(alloc: Global, workload: &Workload, port: Option<u16>) -> Result<FilterChain, Memory>
+fn opaque_chain(
+    alloc: Global,
+    workload: &Workload,
+    port: Option<u16>,
+) -> Result<FilterChain, Memory>
     requires { IsBuildable workload.now }
     ensures { IfOk result (λ c. c ≡ meaning.tcp_chain port (codes "-opaque") (Some transport.Tls) [] false (filters_of workload.now)) }
 {

@@ -1,8 +1,9 @@
 // Builds the inbound listener that enforces the policies of a workload.
-ghost use Rattle.std.specs.Prelude.{◌≡◌, ◌++◌, Some, flat_map, IfOk};
+ghost use Rattle.std.specs.Prelude.{◌≡◌, ◌++◌, Some, flat_map, IfOk, IsTrue};
 ghost use Rattle.mesh_policy.specs.Verdicts.{verdict_of};
 ghost use Rattle.mesh_policy.specs.Workload.{listed_of, mode_of};
 ghost use Rattle.mesh_policy.specs.declared.case.Case.{Case};
+ghost use Rattle.envoy_types.specs.ListenerForms.{is_printable};
 ghost use Rattle.envoy_types.specs.ListenerVerdict.{envoy_verdict};
 ghost use Rattle.chain_build.specs.Buildable.{IsBuildable};
 ghost use Rattle.chain_build.specs.Chains.{tcp_chains};
@@ -16,10 +17,11 @@ use mesh_text::{List, Memory, Text};
 use std::alloc::Global;
 
 /// The listener of a workload. It has the chains of each listed port, ascending, by the port's mode, and then those of all
-/// other ports, which name none. Each connection gets the verdict of the policies from it.
+/// other ports, which name none. It can be written as JSON, and gives each connection the verdict of the policies.
 pub fn build(alloc: Global, w: &Workload) -> Result<Listener, Memory>
     requires { IsBuildable w.now }
     ensures shape { IfOk result (λ listener. listener ≡ meaning.built w.now) }
+    ensures printable { IfOk result (λ listener. IsTrue (is_printable listener)) }
     ensures verdicts { IfOk result (λ listener. (case : Case) → envoy_verdict listener case ≡ verdict_of w.now case) }
 {
     w.limits();
@@ -60,7 +62,13 @@ fn listed_chains(alloc: Global, workload: &Workload) -> Result<List<FilterChain>
     let mut chains = List::new(alloc);
     let listed = workload.listed();
     for port in listed.iter() {
-        push_chains(alloc, &mut chains, workload, Some(*port), workload.mode(*port))?;
+        push_chains(
+            alloc,
+            &mut chains,
+            workload,
+            Some(*port),
+            workload.mode(*port),
+        )?;
     }
     Ok(chains)
 }

@@ -1,1 +1,4 @@
+pub mod BlockLemmas
+pub mod ReadLemmas
+pub mod StringLemmas
 pub mod TreeLemmas

@@ -1,18 +1,26 @@
 //! The leaves of permissions as JSON.
 ghost use Rattle.std.specs.Prelude.{◌≡◌, IfOk};
 ghost use Rattle.serde_json.specs.View.{view};
+ghost use Rattle.mesh_doc.specs.Fields.{required_written_in};
+ghost use Rattle.mesh_doc.specs.Kinds.{text_in};
+ghost use Rattle.envoy_types.specs.PermissionForms as form;
 ghost use Rattle.envoy_types.specs.PermissionForms.{uri_template_written};
+ghost use Rattle.envoy_types.specs.StringForms.{string_in};
+ghost use Rattle.envoy_types.specs.declared.keys.TheConstants as key;
 
-use crate::blocks::block_value;
+use crate::alternatives::{AnyPort, fixed_field, named};
+use crate::blocks::{BlockForm, block_value};
 use crate::fields::{config_of, named_value, number_value, sole_field};
 use crate::form::{Form, Word};
-use crate::headers::header_value;
-use crate::strings::string_to_value;
+use crate::headers::{HeaderForm, header_value};
+use crate::strings::{StringForm, string_to_value};
 use envoy_types::keys::{
     AND_RULES, DESTINATION_IP, DESTINATION_PORT, HEADER, NOT_RULE, OR_RULES, PATH, PATH_TEMPLATE,
-    RULES, SERVER_NAME, URI_TEMPLATE, URL_PATH,
+    RULES, SERVER_NAME, TYPE, URI_TEMPLATE, URL_PATH,
 };
-use envoy_types::{PermissionLeaf, URI_TEMPLATE_NAME, URI_TEMPLATE_TYPE};
+use envoy_types::{PermissionLeaf, StringMatcher, URI_TEMPLATE_NAME, URI_TEMPLATE_TYPE};
+use mesh_doc::{DocError, Form as JsonForm, Reason, Spot, required_written};
+use mesh_policy::Template;
 use mesh_text::Memory;
 use serde_json::Value;
 use std::alloc::Global;
@@ -66,6 +74,24 @@ impl Form for PermissionLeaf {
         }
     }
 
+    #[tactic(auto, unfolding(envoy_types::specs::PermissionForms::permission_leaf_faults, envoy_types::specs::PermissionForms::permission_leaf_in, envoy_types::specs::PermissionForms::uri_template_in))]
+    fn read_at(alloc: Global, key: &str, v: &Value, at: &Spot) -> Result<PermissionLeaf, DocError> {
+        if key == DESTINATION_IP {
+            Ok(PermissionLeaf::DestinationIp(BlockForm::read(alloc, v, at)?))
+        } else if key == DESTINATION_PORT {
+            Ok(PermissionLeaf::DestinationPort(AnyPort::read(alloc, v, at)?))
+        } else if key == HEADER {
+            Ok(PermissionLeaf::Header(HeaderForm::read(alloc, v, at)?))
+        } else if key == SERVER_NAME {
+            Ok(PermissionLeaf::ServerName(StringForm::read(alloc, v, at)?))
+        } else if key == URI_TEMPLATE {
+            let uri = named::<TemplateForm>(alloc, v, URI_TEMPLATE_NAME, at)?;
+            Ok(PermissionLeaf::UriTemplate(uri))
+        } else {
+            Ok(PermissionLeaf::UrlPath(PathForm::read(alloc, v, at)?))
+        }
+    }
+
     ghost own_names = { permission-own-names };
 
     ghost one_field = { permission-writes };
@@ -81,4 +107,61 @@ fn template_value(alloc: Global, uri: &str) -> Result<Value, Memory>
     let mut config = config_of(alloc, URI_TEMPLATE_TYPE)?;
     config.put_text(alloc, PATH_TEMPLATE, uri)?;
     named_value(alloc, URI_TEMPLATE_NAME, config.into_value())
+}
+
+// The path of a request (`type.matcher.v3.PathMatcher`).
+struct PathForm;
+
+impl JsonForm for PathForm {
+    type Out = StringMatcher;
+
+    ghost faults = { form.url_path_faults };
+
+    ghost value = { required_written_in key.PATH.now string_in };
+
+    #[tactic(auto, unfolding(envoy_types::specs::PermissionForms::url_path_faults))]
+    fn read(alloc: Global, v: &Value, at: &Spot) -> Result<StringMatcher, DocError> {
+        at.only_fields(alloc, v, &[PATH])?;
+        required_written::<StringForm>(alloc, v, PATH, at)
+    }
+}
+
+// The configuration of a template (`UriTemplateMatchConfig`).
+struct TemplateForm;
+
+impl JsonForm for TemplateForm {
+    type Out = Template;
+
+    ghost faults = { form.template_config_faults };
+
+    ghost value = { required_written_in key.PATH_TEMPLATE.now text_in };
+
+    #[tactic(auto, unfolding(envoy_types::specs::PermissionForms::template_config_faults))]
+    fn read(alloc: Global, v: &Value, at: &Spot) -> Result<Template, DocError> {
+        at.only_fields(alloc, v, &[TYPE, PATH_TEMPLATE])?;
+        fixed_field(alloc, v, TYPE, URI_TEMPLATE_TYPE, at)?;
+        required_written::<UriForm>(alloc, v, PATH_TEMPLATE, at)
+    }
+}
+
+// A template with `*` and `**` as operators: BadForm for a text that is none.
+struct UriForm;
+
+impl JsonForm for UriForm {
+    type Out = Template;
+
+    ghost faults = { form.template_faults };
+
+    ghost value = { text_in };
+
+    #[tactic(auto, unfolding(mesh_doc::specs::Tested::tested, mesh_doc::specs::Kinds::text_faults, mesh_doc::specs::Kinds::text_in))]
+    fn read(alloc: Global, v: &Value, at: &Spot) -> Result<Template, DocError> {
+        let Value::String(text) = v else {
+            return Err(at.refuse(alloc, Reason::WrongType));
+        };
+        match Template::from_uri(alloc, text.as_str())? {
+            Some(uri) => Ok(uri),
+            None => Err(at.refuse(alloc, Reason::BadForm)),
+        }
+    }
 }

@@ -2,23 +2,24 @@
 ghost use Rattle.std.specs.Prelude.{◌≡◌, IfOk, OnOk};
 ghost use Rattle.std.specs.Option.{option_copied};
 ghost use Rattle.serde_json.specs.View.{view};
-ghost use Rattle.envoy_types.specs.PrincipalForms.{authenticated_written};
+ghost use Rattle.envoy_types.specs.PrincipalForms.{authenticated_faults, authenticated_in, authenticated_written};
 ghost use Rattle.envoy_types.specs.StringForms.{string_written};
 ghost use Rattle.envoy_types.specs.WrittenFields.{optional_field, with_field};
 ghost use Rattle.envoy_types.specs.declared.keys.TheConstants.{PRINCIPAL_NAME};
 ghost use Rattle.leaf_json.specs.Fields.{members_of};
 
-use crate::blocks::block_value;
+use crate::blocks::{BlockForm, block_value};
 use crate::fields::{Fields, sole_field};
 use crate::form::{Form, Word};
-use crate::headers::header_value;
-use crate::strings::string_to_value;
-use crate::values::metadata_value;
+use crate::headers::{HeaderForm, header_value};
+use crate::strings::{StringForm, string_to_value};
+use crate::values::{MetadataForm, metadata_value};
 use envoy_types::keys::{
     AND_IDS, AUTHENTICATED, DIRECT_REMOTE_IP, HEADER, IDS, METADATA, NOT_ID, OR_IDS,
     PRINCIPAL_NAME, REMOTE_IP,
 };
 use envoy_types::{PrincipalLeaf, StringMatcher};
+use mesh_doc::{DocError, Form as JsonForm, Spot, optional_written};
 use mesh_text::Memory;
 use serde_json::Value;
 use std::alloc::Global;
@@ -72,6 +73,23 @@ impl Form for PrincipalLeaf {
         }
     }
 
+    #[tactic(auto, unfolding(envoy_types::specs::PrincipalForms::principal_leaf_faults, envoy_types::specs::PrincipalForms::principal_leaf_in))]
+    fn read_at(alloc: Global, key: &str, v: &Value, at: &Spot) -> Result<PrincipalLeaf, DocError> {
+        if key == AUTHENTICATED {
+            let name = AuthenticatedForm::read(alloc, v, at)?;
+            Ok(PrincipalLeaf::Authenticated(name))
+        } else if key == DIRECT_REMOTE_IP {
+            Ok(PrincipalLeaf::DirectRemoteIp(BlockForm::read(alloc, v, at)?))
+        } else if key == HEADER {
+            Ok(PrincipalLeaf::Header(HeaderForm::read(alloc, v, at)?))
+        } else if key == METADATA {
+            let (path, value) = MetadataForm::read(alloc, v, at)?;
+            Ok(PrincipalLeaf::Metadata { path, value })
+        } else {
+            Ok(PrincipalLeaf::RemoteIp(BlockForm::read(alloc, v, at)?))
+        }
+    }
+
     ghost own_names = { principal-own-names };
 
     ghost one_field = { principal-writes };
@@ -100,5 +118,22 @@ fn put_name(alloc: Global, fields: &mut Fields, name: Option<&StringMatcher>) ->
             let value = string_to_value(alloc, matcher)?;
             fields.put(alloc, PRINCIPAL_NAME, value)
         }
+    }
+}
+
+// A peer that is known, with a matcher of its name or without one.
+struct AuthenticatedForm;
+
+impl JsonForm for AuthenticatedForm {
+    type Out = Option<StringMatcher>;
+
+    ghost faults = { authenticated_faults };
+
+    ghost value = { authenticated_in };
+
+    #[tactic(auto, unfolding(envoy_types::specs::PrincipalForms::authenticated_faults, envoy_types::specs::PrincipalForms::authenticated_in))]
+    fn read(alloc: Global, v: &Value, at: &Spot) -> Result<Option<StringMatcher>, DocError> {
+        at.only_fields(alloc, v, &[PRINCIPAL_NAME])?;
+        optional_written::<StringForm>(alloc, v, PRINCIPAL_NAME, at)
     }
 }

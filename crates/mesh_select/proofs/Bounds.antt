@@ -278,7 +278,7 @@ few-applying before test xs n few =
 
 -- ---- all rules of tokens
 
-all-flat : {A B : Type 0} (g : A → List B) (P : B → Type 0) (xs : List A) → All (λ x. All P (g x)) xs → All P (flat_map g xs)
+pub all-flat : {A B : Type 0} (g : A → List B) (P : B → Type 0) (xs : List A) → All (λ x. All P (g x)) xs → All P (flat_map g xs)
 all-flat g P [] h = All-nil P
 all-flat g P (x ∷ xs) h =
     All-append P (g x) (flat_map g xs) (All-head (λ y. All P (g y)) x xs h) (all-flat g P xs (All-tail (λ y. All P (g y)) x xs h))

@@ -2,10 +2,10 @@
 use Rattle.std.proofs.Common.{◌≡◌, ℕ, ◌≤◌, Bool, true, false, cond, ◌&&◌, ◌<◌, ◌++◌, All, AllPairs, IsTrue, List, [], ◌∷◌, length, map, filter, find, bytes_eq, get_or, is_some, Option, Some, None, nat_lt, refl, sym, ◌∙◌, ap₂, subst, arith}
 use Rattle.std.proofs.lemmas.Bool.Decides.{nat_tests}
 use Rattle.std.proofs.lemmas.List.{length-map}
-use Rattle.std.proofs.lemmas.List.Elements.{All-filter, All-head, All-tail, All-weaker, filter_passes}
+use Rattle.std.proofs.lemmas.List.Elements.{All-filter, All-map, All-weaker, filter_passes}
 use Rattle.std.proofs.lemmas.List.Kept.{AllPairs-filter}
 use Rattle.std.specs.Option.{option_and_then, option_or}
-use Rattle.mesh_policy.specs.AcceptedBundle.{AcceptedBundle, AcceptedItems, AcceptedProvider, same_policy}
+use Rattle.mesh_policy.specs.AcceptedBundle.{AcceptedBundle, AcceptedItems, AcceptedPod, AcceptedProvider, same_policy}
 use Rattle.mesh_policy.specs.AcceptedRules.{AcceptedPolicy}
 use Rattle.mesh_policy.specs.Applying.{applies, authorization_of, comes_before}
 use Rattle.mesh_policy.specs.Modes.{workload_policy}
@@ -24,6 +24,7 @@ use Rattle.mesh_select.specs.Workload.{KeepsLimits}
 use Rattle.mesh_select.proofs.Apart.{pairs-in_order, pairs-map}
 use Rattle.mesh_select.proofs.Authorizer.{NamesOne, found-name, with-name, without}
 use Rattle.mesh_select.proofs.Bounds.{policies-accepted, rules-accepted}
+use Rattle.mesh_select.proofs.InRange.{IsPort, found-accepted, listed-ports}
 use Rattle.mesh_select.proofs.Judged.{none-first, none-later}
 use Rattle.mesh_select.proofs.Limits.{size-by_action}
 use Rattle.mesh_select.proofs.Lookups.{bytes_eq-flips}
@@ -33,13 +34,6 @@ use Rattle.mesh_select.proofs.Rising.{ascending-rises}
 untested : {A : Type 0} (b : Bool) (x : A) → cond b (Some x) None ≡ None → b ≡ false
 untested true x h = cc
 untested false x h = refl
-
-found-accepted : {A : Type 0} (P : A → Type 0) (test : A → Bool) (xs : List A) → All P xs → (x : A) → find test xs ≡ Some x → P x
-found-accepted P test [] h x e = cc
-found-accepted {A} P test (y ∷ ys) h x e = at (test y) (found-accepted P test ys (All-tail P y ys h) x) e where
-  at : (b : Bool) → (find test ys ≡ Some x → P x) → cond b (Some y) (find test ys) ≡ Some x → P x
-  at true later e = let same : y ≡ x = cc in subst P same (All-head P y ys h)
-  at false later e = later e
 
 -- two policies of one namespace have different names
 abbrev Apart : AuthorizationPolicy → AuthorizationPolicy → Type 0
@@ -137,10 +131,11 @@ module _ (bundle : Bundle) (pod : Pod) (accepted : AcceptedBundle bundle) where
   no-size : fault.fault_for bundle (Some pod) ≡ None → fault.size_fault bundle pod ≡ None
   no-size h = none-first (fault.size_fault bundle pod) None (none-later (fault.number_fault bundle pod) _ (last-two h))
 
-  pub keeps-limits : fault.fault_for bundle (Some pod) ≡ None → KeepsLimits (workload_of bundle pod)
+  pub keeps-limits : AcceptedPod pod → fault.fault_for bundle (Some pod) ≡ None → KeepsLimits (workload_of bundle pod)
   unfolding workload_of
-  keeps-limits h = record {
+  keeps-limits container h = record {
     ports = subst (λ n. n ≤ 16) (sym (length-map (listed bundle pod) (port_of bundle pod))) (few-listed (no-number h));
+    numbers = All-map (λ (port : ListedPort). IsPort port.number) (port_of bundle pod) (listed bundle pod) (listed-ports pod container bundle accepted);
     rising = pairs-map (λ (port later : ListedPort). port.number < later.number) (port_of bundle pod) (listed bundle pod) listed-rises;
     size = size-by_action (authorization_of bundle pod) (jwt_rules_of bundle pod) ∙ within-limit (no-size h);
     actions = has-actions;

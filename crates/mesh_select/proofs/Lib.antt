@@ -2,6 +2,7 @@ pub mod Apart
 pub mod Authorizer
 pub mod Bounds
 pub mod Found
+pub mod InRange
 pub mod Judged
 pub mod Kept
 pub mod Limits

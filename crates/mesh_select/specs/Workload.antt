@@ -1,10 +1,11 @@
 -- What contracts see of a workload, and what is true of each.
-use Rattle.std.specs.Prelude.{◌≡◌, ◌<◌, ◌≤◌, ◌++◌, false, All, AllPairs, [], Some, length}
+use Rattle.std.specs.Prelude.{◌≡◌, ◌<◌, ◌≤◌, ◌++◌, false, All, AllPairs, IsTrue, [], Some, length}
 use Rattle.std.specs.Option.{ForNone, ForSome}
 use Rattle.mesh_policy.specs.AcceptedBundle.{AcceptedItems, AcceptedProvider, same_policy}
 use Rattle.mesh_policy.specs.AcceptedRules.{AcceptedPolicy}
 use Rattle.mesh_policy.specs.AcceptedTokens.{AcceptedJwtRule}
 use Rattle.mesh_policy.specs.Sizes.{is_over_limit, size_of}
+use Rattle.mesh_policy.specs.Values.{is_port}
 use Rattle.mesh_policy.specs.Workload.{Workload, with_action}
 use Rattle.mesh_policy.specs.declared.policy.Action.{Action}
 use Rattle.mesh_select.specs.declared.workload.Workload.TheInside.{Inside}
@@ -26,6 +27,8 @@ view_of w = record {
 -- and the CUSTOM policies name its provider (Istio reference, Authorization Policy: `action`, `provider`).
 pub record KeepsLimits (workload : Workload) : Type 0 where
   pub ports : length workload.ports ≤ 16
+  -- from 1 to 65,535
+  pub numbers : All (λ port. IsTrue (is_port port.number)) workload.ports
   -- each number is less than all later ones, so no two are the same
   pub rising : AllPairs (λ port later. port.number < later.number) workload.ports
   -- at most 2,048 values, 1,024 entries and 65,536 bytes

@@ -1,7 +1,7 @@
 // The workload of a Pod, or the reason why there is none.
 ghost use Rattle.std.specs.Prelude.{◌≡◌, Some, IfOk};
 ghost use Rattle.std.specs.Option.{option_copied, option_map};
-ghost use Rattle.mesh_policy.specs.AcceptedBundle.{AcceptedBundle};
+ghost use Rattle.mesh_policy.specs.AcceptedBundle.{AcceptedBundle, AcceptedPod};
 ghost use Rattle.mesh_policy.specs.SelectFault.{fault_for, pod_named, select_fault};
 ghost use Rattle.mesh_policy.specs.Workload.{workload_of};
 ghost use Rattle.mesh_select.specs.SelectError.{Judges};
@@ -32,7 +32,8 @@ pub fn select(
 }
 
 fn select_pod(alloc: Global, b: &Bundle, pod: &Pod) -> Result<Workload, SelectError>
-    requires { AcceptedBundle b.now }
+    requires accepted { AcceptedBundle b.now }
+    requires pod { AcceptedPod pod.now }
     ensures reason { Judges result (fault_for b.now (Some pod.now)) }
     ensures workload { IfOk result (λ w. w ≡ workload_of b.now pod.now) }
 {

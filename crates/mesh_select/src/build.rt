@@ -1,7 +1,7 @@
 // The workload of a Pod that no reason speaks against.
 ghost use Rattle.std.specs.Prelude.{◌≡◌, ◌++◌, Some, None, filter, map, IfOk, OnOk};
 ghost use Rattle.std.specs.Option.{option_copied};
-ghost use Rattle.mesh_policy.specs.AcceptedBundle.{AcceptedBundle};
+ghost use Rattle.mesh_policy.specs.AcceptedBundle.{AcceptedBundle, AcceptedPod};
 ghost use Rattle.mesh_policy.specs.SelectFault as fault;
 ghost use Rattle.mesh_policy.specs.Workload as seen;
 ghost use Rattle.mesh_select.specs.Build as meant;
@@ -19,6 +19,7 @@ use std::collections::BTreeSet;
 impl Selection<'_> {
     pub(crate) fn workload(&self, alloc: Global) -> Result<Workload, Memory>
         requires accepted { AcceptedBundle self.now.bundle }
+        requires pod { AcceptedPod self.now.pod }
         requires judged { fault.fault_for self.now.bundle (Some self.now.pod) ≡ None }
         ensures { IfOk result (λ w. w ≡ seen.workload_of self.now.bundle self.now.pod) }
     {

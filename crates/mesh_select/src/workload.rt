@@ -114,8 +114,8 @@ impl Workload {
         self.provider.as_ref()
     }
 
-    /// A law of every workload: it keeps the limits, its ports are listed in order, its policies and rules are accepted,
-    /// each policy under its action, and the CUSTOM policies name its provider. The call does nothing.
+    /// A law of every workload: it keeps the limits, its ports are in range and listed in order, its policies and rules are
+    /// accepted, each policy under its action, and the CUSTOM policies name its provider. The call does nothing.
     pub fn limits(&self)
         ensures { KeepsLimits self.now }
     {

@@ -1,6 +1,10 @@
--- The listener that is built agrees with the policies.
+-- The listener that is built can be written, and agrees with the policies.
+use Rattle.chain_build.proofs.BuiltPrintable.{can-be-written}
 use Rattle.chain_build.proofs.Verdict.{agrees}
 use Rattle.chain_build.proofs.listener.build.Goals as goal
+
+pub returns-clause-printable : goal.returns-clause-printable
+returns-clause-printable c = can-be-written c.args.w.now c.limits.ensures c.requires c.built.result c.built.ensures
 
 pub returns-clause-verdicts : goal.returns-clause-verdicts
 returns-clause-verdicts c = agrees c.args.w.now c.requires c.limits.ensures.rising c.built.result c.built.ensures

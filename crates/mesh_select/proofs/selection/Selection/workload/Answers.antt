@@ -51,5 +51,5 @@ invariant_of-result c =
       c.in_ok-copy_numbers.ensures ∙ c.deref.ensures.value
           ∙ sym (ap (map (λ (port : seen.ListedPort). port.number)) c.in_ok-listed_ports.ensures
           ∙ numbers-of s.http.keys s.levels c.deref-2.result.now ∙ c.deref-2.ensures.value),
-      subst KeepsLimits (sym (returns c)) (keeps-limits c.args.self.now.bundle c.args.self.now.pod c.requires.accepted c.requires.judged),
+      subst KeepsLimits (sym (returns c)) (keeps-limits c.args.self.now.bundle c.args.self.now.pod c.requires.accepted c.requires.pod c.requires.judged),
     )

@@ -1,15 +1,8 @@
-mod Builds
 mod Enforced
 mod Fronts
 mod Inputs
 mod Joined
-mod NamesRise
 mod Options
-mod PortPolicies
-mod Printable
 mod Readings
 mod Reasons
 mod Served
-mod Shallow
-mod Trees
-mod Verdict

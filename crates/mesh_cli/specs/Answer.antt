@@ -5,18 +5,19 @@ use Rattle.std.specs.Str.{is_utf8}
 use Rattle.serde_json.specs.Data.{Data}
 use Rattle.serde_json.specs.Read.{read}
 use Rattle.mesh_doc.specs.Faults.{first}
+use Rattle.mesh_doc.specs.Places.{Steps}
+use Rattle.mesh_doc.specs.Printed.{shown}
 use Rattle.mesh_doc.specs.declared.fault.Fault.{Fault}
 use Rattle.mesh_policy.specs.declared.bundle.Bundle.{Bundle}
 use Rattle.mesh_policy.specs.SelectFault.{SelectFault, no_workload, pod_named, select_fault}
 use Rattle.mesh_policy.specs.Workload.{Workload, workload_of}
 use Rattle.manifest_json.specs.Document.{bundle_faults, bundle_in}
-use Rattle.mesh_cli.specs.declared.refusal.Spot.{Spot}
+use Rattle.kept_back.specs.Manifests.{not_yet}
 use Rattle.mesh_cli.specs.declared.words.Command.{Command}
 use Rattle.mesh_cli.specs.declared.words.Command.TheVariants.{Translate, Check}
 use Rattle.mesh_cli.specs.Counts.{counts_text}
-use Rattle.mesh_cli.specs.FirstForm.{not_yet}
 use Rattle.mesh_cli.specs.PodName.{PodName}
-use Rattle.mesh_cli.specs.Refusal.{Answer, writes, refuses_at, refuses_fault, spot_text, whole_input}
+use Rattle.mesh_cli.specs.Refusal.{Answer, writes, refuses_at, refuses_fault, whole_input}
 use Rattle.mesh_cli.specs.Selection.{refuses_pod}
 use Rattle.mesh_cli.specs.Text.{listener_text}
 
@@ -42,15 +43,15 @@ workload_named name bundle = option_map (workload_of bundle) (pod_named name.nam
 abbrev pub selection : PodName → Bundle → Answer
 selection name bundle = answer_for name (select_fault bundle name.namespace name.name) (workload_named name bundle)
 
--- NotYet, or what selection answers
-unfoldable pub translation : PodName → Bundle → Option Spot → Answer
-translation name bundle (Some spot) = refuses_at (spot_text spot) (codes "NotYet")
+-- NotYet at the first place that no listener is built for, or what selection answers
+unfoldable pub translation : PodName → Bundle → Option Steps → Answer
+translation name bundle (Some place) = refuses_at (shown place) (codes "NotYet")
 translation name bundle None = selection name bundle
 
 -- of manifests without fault
 abbrev pub answer_with : Command → Data → Bundle → Answer
 answer_with Check document bundle = writes (counts_text bundle)
-answer_with (Translate name) document bundle = translation name bundle (not_yet document bundle)
+answer_with (Translate name) document bundle = translation name bundle (not_yet document)
 
 abbrev pub answer_unless : Option Fault → Answer → Answer
 answer_unless (Some fault) answer = refuses_fault fault

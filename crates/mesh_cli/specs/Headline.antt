@@ -11,10 +11,10 @@ use Rattle.mesh_policy.specs.Workload.{Workload, workload_of}
 use Rattle.envoy_types.specs.declared.chains.Listener.{Listener}
 use Rattle.envoy_types.specs.ListenerForms.{Spells}
 use Rattle.envoy_types.specs.ListenerVerdict.{envoy_verdict}
+use Rattle.kept_back.specs.Manifests.{not_yet}
 use Rattle.mesh_cli.specs.declared.words.Command.{Command}
 use Rattle.mesh_cli.specs.declared.words.Command.TheVariants.{Translate}
 use Rattle.mesh_cli.specs.Answer.{document_of}
-use Rattle.mesh_cli.specs.FirstForm.{not_yet}
 use Rattle.mesh_cli.specs.PodName.{PodName}
 
 -- The text is JSON, its value spells one listener and no other, and that listener gives every connection
@@ -33,7 +33,7 @@ pub record Accepted (name : PodName) (bytes : List ℕ) : Type 0 where
   pub document : Data
   pub reads : document_of bytes ≡ Some document
   pub faultless : first (bundle_faults document []) ≡ None
-  pub buildable : not_yet document (bundle_in document) ≡ None
+  pub buildable : not_yet document ≡ None
   pub pod : Pod
   pub named : pod_named name.namespace name.name (bundle_in document) ≡ Some pod
   pub selected : select_fault (bundle_in document) name.namespace name.name ≡ None

@@ -1,10 +1,5 @@
 pub mod Answer
-pub mod Build
-pub mod BuildRules
-pub mod Buildable
 pub mod Counts
-pub mod Fields
-pub mod FirstForm
 pub mod Headline
 pub mod Notes
 pub mod PodName
@@ -23,3 +18,5 @@ pub use Rattle.mesh_policy.specs.Workload
 pub use Rattle.manifest_json.specs.Document
 pub use Rattle.envoy_types.specs.ListenerForms
 pub use Rattle.envoy_types.specs.ListenerVerdict
+pub use Rattle.chain_build.specs.Listener
+pub use Rattle.kept_back.specs.Manifests

@@ -3,8 +3,6 @@ use Rattle.std.specs.Prelude.{ℕ, ◌≡◌, List, [], ◌∷◌, ◌++◌, cod
 use Rattle.mesh_text.specs.Bytes as byte
 use Rattle.mesh_doc.specs.Printed.{fault_text}
 use Rattle.mesh_doc.specs.declared.fault.Fault.{Fault}
-use Rattle.mesh_cli.specs.declared.refusal.Spot.{Spot}
-use Rattle.mesh_cli.specs.declared.refusal.Spot.TheVariants.{Document, FirstItem, SecondItem}
 use Rattle.mesh_cli.specs.declared.refusal.Stop.{Stop}
 use Rattle.mesh_cli.specs.declared.refusal.Stop.TheVariants as stop
 
@@ -29,11 +27,6 @@ refuses_fault fault = refuses (refusal_line (fault_text fault))
 -- the input as a whole
 abbrev pub whole_input : List ℕ
 whole_input = codes "input"
-
-abbrev pub spot_text : Spot → List ℕ
-spot_text Document = codes "$"
-spot_text FirstItem = codes "$/items/0"
-spot_text SecondItem = codes "$/items/1"
 
 -- why there is no text
 abbrev pub Stops : Stop → Answer → Type 0

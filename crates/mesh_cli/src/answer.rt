@@ -7,20 +7,20 @@ ghost use Rattle.mesh_policy.specs.AcceptedBundle.{AcceptedBundle};
 ghost use Rattle.mesh_policy.specs.SelectFault.{pod_named};
 ghost use Rattle.mesh_policy.specs.Workload.{workload_of};
 ghost use Rattle.mesh_policy.specs.declared.pod.Pod.{Pod as Named};
+ghost use Rattle.chain_build.specs.Buildable.{IsBuildable};
+ghost use Rattle.kept_back.specs.Manifests.{not_yet as waits};
 ghost use Rattle.mesh_cli.specs.Answer as answer;
-ghost use Rattle.mesh_cli.specs.Buildable.{is_buildable};
-ghost use Rattle.mesh_cli.specs.FirstForm.{not_yet as waits};
 ghost use Rattle.mesh_cli.specs.Headline.{Enforces, EnforcesFor};
 ghost use Rattle.mesh_cli.specs.Refusal.{Answer, Stops, writes};
 ghost use Rattle.mesh_cli.specs.declared.words.Command.{Command as Asked};
 
 use crate::counts::counts_text;
-use crate::first_form::not_yet;
 use crate::pod_name::PodName;
-use crate::refusal::{Stop, refuse, refuse_fault};
+use crate::refusal::{Stop, refuse, refuse_fault, refuse_place};
 use crate::selection::refuse_pod;
 use crate::text::listener_text;
 use crate::words::Command;
+use kept_back::not_yet;
 use manifest_json::read_bundle;
 use mesh_doc::DocError;
 use mesh_policy::Bundle;
@@ -85,24 +85,23 @@ fn translate(
     bundle: &Bundle,
     name: &PodName,
 ) -> Result<String, Stop>
-    requires { AcceptedBundle bundle.now }
-    ensures ok { IfOk result (λ s. answer.translation name.now bundle.now (waits (view document.now) bundle.now)
-        ≡ writes (string_bytes s)) }
+    requires accepted { AcceptedBundle bundle.now }
+    requires read { bundle.now ≡ bundle_in (view document.now) }
+    ensures ok { IfOk result (λ s. answer.translation name.now bundle.now (waits (view document.now)) ≡ writes (string_bytes s)) }
     ensures enforces { IfOk result (λ s. (pod : Named) → pod_named name.now.namespace name.now.name bundle.now ≡ Some pod
         → Enforces (workload_of bundle.now pod) (string_bytes s)) }
-    ensures err { IfErr result (λ why. Stops why
-        (answer.translation name.now bundle.now (waits (view document.now) bundle.now))) }
+    ensures err { IfErr result (λ why. Stops why (answer.translation name.now bundle.now (waits (view document.now)))) }
 {
-    match not_yet(document, bundle) {
+    match not_yet(alloc, document)? {
         None => translate_selected(alloc, bundle, name),
-        Some(spot) => Err(refuse(alloc, spot.text(), "NotYet")),
+        Some(place) => Err(refuse_place(alloc, &place, "NotYet")),
     }
 }
 
 // The listener of the named Pod, where selection accepts it.
 fn translate_selected(alloc: Global, bundle: &Bundle, name: &PodName) -> Result<String, Stop>
     requires accepted { AcceptedBundle bundle.now }
-    requires buildable { IsTrue (is_buildable bundle.now) }
+    requires buildable { (pod : Named) → IsBuildable (workload_of bundle.now pod) }
     ensures ok { IfOk result (λ s. answer.selection name.now bundle.now ≡ writes (string_bytes s)) }
     ensures enforces { IfOk result (λ s. (pod : Named) → pod_named name.now.namespace name.now.name bundle.now ≡ Some pod
         → Enforces (workload_of bundle.now pod) (string_bytes s)) }

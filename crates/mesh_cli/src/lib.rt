@@ -2,12 +2,7 @@
 #![tactic(auto)]
 
 mod answer;
-mod build;
-mod build_rules;
-mod buildable;
 mod counts;
-mod fields;
-mod first_form;
 mod notes;
 mod pieces;
 mod pod_name;

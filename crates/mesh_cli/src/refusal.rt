@@ -4,7 +4,7 @@ ghost use Rattle.mesh_doc.specs.Printed as printed;
 ghost use Rattle.mesh_cli.specs.Refusal as meaning;
 ghost use Rattle.mesh_cli.specs.Refusal.{Stops};
 
-use mesh_doc::{Fault, fault_text};
+use mesh_doc::{Fault, Place, fault_text, place_text};
 use mesh_text::{Memory, Text};
 use std::alloc::Global;
 
@@ -23,27 +23,6 @@ pub enum Status {
     WriteFault = 4,
     /// Memory ran out.
     Memory = 5,
-}
-
-/// Where a document leaves the form that a listener is built for so far.
-#[derive(Clone, Copy, Debug, PartialEq, Eq)]
-pub enum Spot {
-    Document,
-    FirstItem,
-    SecondItem,
-}
-
-impl Spot {
-    /// The place as refusals print it.
-    pub fn text(&self) -> &'static str
-        ensures { result.now ≡ meaning.spot_text self.now }
-    {
-        match self {
-            Spot::Document => "$",
-            Spot::FirstItem => "$/items/0",
-            Spot::SecondItem => "$/items/1",
-        }
-    }
 }
 
 /// Why there is no text.
@@ -72,6 +51,16 @@ pub fn refuse(alloc: Global, place: &str, reason: &str) -> Stop
     match format!(in alloc; "refused: {place}: {reason}\n") {
         Ok(line) => Stop::Refused(Text::from_string(line)),
         Err(_) => Stop::Memory,
+    }
+}
+
+/// The refusal for a reason at a place of the document, or want of memory for its line.
+pub fn refuse_place(alloc: Global, place: &Place, reason: &str) -> Stop
+    ensures { Stops result (meaning.refuses_at (printed.shown place.now) reason.now) }
+{
+    match place_text(alloc, place) {
+        Ok(place) => refuse(alloc, &place, reason),
+        Err(Memory) => Stop::Memory,
     }
 }
 

@@ -1,13 +1,12 @@
 // The text of a workload's listener.
 ghost use Rattle.std.specs.Prelude.{◌≡◌, string_bytes, IfOk};
-ghost use Rattle.mesh_cli.specs.Buildable.{IsBuildable};
+ghost use Rattle.chain_build.specs.Buildable.{IsBuildable};
 ghost use Rattle.mesh_cli.specs.Headline.{Enforces};
 ghost use Rattle.mesh_cli.specs.Text as told;
 
-use crate::build::build;
+use chain_build::build;
 use envoy_types::written_spells;
 use listener_json::to_value;
-use mesh_policy::port_policies;
 use mesh_select::Workload;
 use mesh_text::Memory;
 use std::alloc::Global;
@@ -18,7 +17,6 @@ pub fn listener_text(alloc: Global, workload: &Workload) -> Result<String, Memor
     ensures text { IfOk result (λ s. string_bytes s ≡ told.listener_text workload.now) }
     ensures enforces { IfOk result (λ s. Enforces workload.now (string_bytes s)) }
 {
-    port_policies();
     written_spells();
     let listener = build(alloc, workload)?;
     let value = to_value(alloc, &listener)?;

@@ -1,5 +1,6 @@
 -- No two policies of a filter have one name, so they stand in strict byte order.
-use Rattle.std.proofs.Common.{◌≡◌, ℕ, ◌+◌, ◌<◌, ◌≤◌, ◌^◌, Bool, true, false, not, ◌&&◌, All, AllPairs, List, [], ◌∷◌, ◌++◌, decimal, get_or, length, map, suc, refl, sym, ◌∙◌, ap, arith}
+use Rattle.std.proofs.Common.{◌≡◌, ℕ, ◌+◌, ◌<◌, ◌≤◌, Bool, true, false, not, All, AllPairs, List, [], ◌∷◌, ◌++◌, decimal, get_or}
+use Rattle.std.proofs.Common.{length, map, suc, refl, sym, ◌∙◌, ap, arith}
 use Rattle.std.proofs.lemmas.Bool.{and_from, and_parts}
 use Rattle.std.proofs.lemmas.Fmt.{decimal_injective}
 use Rattle.std.proofs.lemmas.List.Elements.{All-head, All-tail}
@@ -75,7 +76,8 @@ module _ (action : Action) where
   own-apart : (p : AuthorizationPolicy) (k : ℕ) (rs : List Rule) → IsNamed action p → k + length rs ≤ 4096
       → are_apart name_of (map (rule_policy_tcp p) (enumerate_from k rs)) ≡ true
   own-apart p k [] h few = refl
-  own-apart p k (r ∷ rs) h few = and_from _ _ (later-apart p k r (k + 1) rs h (omega arith) (omega arith)) (own-apart p (k + 1) rs h (omega arith))
+  own-apart p k (r ∷ rs) h few = and_from _ _ (later-apart p k r (k + 1) rs h (omega arith) (omega arith))
+      (own-apart p (k + 1) rs h (omega arith))
 
   -- ---- rules of two policies
 

@@ -1,5 +1,6 @@
 -- The filter of the policies of an action decides a TCP connection as their rules do.
-use Rattle.std.proofs.Common.{◌≡◌, ℕ, ◌+◌, Bool, true, false, ◌||◌, All, IsTrue, List, [], ◌∷◌, ◌++◌, map, Option, Some, None, is_some, cond, refl, sym, ◌∙◌, ap}
+use Rattle.std.proofs.Common.{◌≡◌, ℕ, ◌+◌, Bool, true, false, ◌||◌, All, IsTrue, List, [], ◌∷◌, map, Option, Some, None, is_some, cond}
+use Rattle.std.proofs.Common.{refl, ◌∙◌, ap}
 use Rattle.std.proofs.lemmas.Bool.{and_parts}
 use Rattle.std.proofs.lemmas.List.Elements.{All-head, All-tail}
 use Rattle.std.proofs.lemmas.List.Folds.{list_any-append}
@@ -62,7 +63,8 @@ module _ (case : Case) (seen : Seen) where
   listed-hold [] h = refl
   listed-hold (policy ∷ policies) h =
       list_any-append holds (rule_policies_tcp policy) (flat_map rule_policies_tcp policies)
-      ∙ ap (λ b. b || list_any holds (flat_map rule_policies_tcp policies)) (rules-hold policy 0 policy.rules (All-head AsksForPorts policy policies h))
+      ∙ ap (λ b. b || list_any holds (flat_map rule_policies_tcp policies))
+      (rules-hold policy 0 policy.rules (All-head AsksForPorts policy policies h))
       ∙ ap (λ b. mesh.policy_holds Tcp case seen policy || b) (listed-hold policies (All-tail AsksForPorts policy policies h))
 
   pub policies-hold : (policies : List AuthorizationPolicy) → All AsksForPorts policies
@@ -76,6 +78,7 @@ unfolding tcp_rbac
 decides action policies h =
     let rules : Rules = record { action = rbac_action action; policies = policies_tcp policies } in
     record {
-      passes = λ case seen. ap (action_passes (rbac_action action)) (is_some-effective rules case seen ∙ policies-hold case seen policies h);
+      passes = λ case seen. ap (action_passes (rbac_action action))
+          (is_some-effective rules case seen ∙ policies-hold case seen policies h);
       marks = λ case seen. ap (action_marks (rbac_action action)) (is_some-effective rules case seen ∙ policies-hold case seen policies h);
     }

@@ -8,7 +8,12 @@ use Rattle.envoy_types.specs.declared.access.RbacPolicy.{RbacPolicy}
 use Rattle.authz_gen.specs.Policies.{policies_tcp, rbac_action, tcp_rbac}
 
 abbrev pub made_of : RbacAction → List RbacPolicy → List ℕ → Rbac
-made_of action policies prefix = record { rules = Some (record { action = action; policies = policies }); shadow = None; shadow_prefix = prefix }
+made_of action policies prefix = record {
+  rules = Some
+      (record { action = action; policies = policies });
+  shadow = None;
+  shadow_prefix = prefix;
+}
 
 pub made-is : (action : Action) (policies : List AuthorizationPolicy) (a : RbacAction) (made : List RbacPolicy) (prefix : List ℕ)
     → a ≡ rbac_action action → made ≡ policies_tcp policies → prefix ≡ [] → made_of a made prefix ≡ tcp_rbac action policies

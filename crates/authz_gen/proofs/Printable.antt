@@ -1,9 +1,8 @@
 -- The filter of policies within the limits of a workload can be written.
-use Rattle.std.proofs.Common.{◌≡◌, ℕ, ◌==◌, ◌+◌, ◌<◌, ◌≤◌, Bool, true, false, ◌&&◌, ◌||◌, nat_lt, All, IsTrue, List, [], ◌∷◌, ◌++◌, length, map, suc, cond, refl, sym, ◌∙◌, ap, ap₂, subst, arith, length-append}
-use Rattle.std.proofs.Math.Bool.{and-true}
+use Rattle.std.proofs.Common.{◌≡◌, ℕ, ◌==◌, ◌+◌, ◌<◌, ◌≤◌, Bool, true, false, ◌||◌, nat_lt, All, IsTrue, List, [], ◌∷◌, ◌++◌, length}
+use Rattle.std.proofs.Common.{map, cond, refl, sym, ◌∙◌, ap, ap₂, subst, arith}
 use Rattle.std.proofs.Math.Dec.{eqb-suc-zero}
 use Rattle.std.proofs.lemmas.Bool.{and_from, and_parts, le-leb, ltb-false, or_parts}
-use Rattle.std.proofs.lemmas.List.{length-map}
 use Rattle.std.proofs.lemmas.List.Elements.{All-head, All-tail}
 use Rattle.std.proofs.lemmas.List.Folds.{list_all-append}
 use Rattle.std.specs.List.{enumerate_from, flat_map, list_all}
@@ -33,7 +32,8 @@ use Rattle.authz_gen.specs.Policies.{AreTcpPolicies, name_before, policies_tcp, 
 use Rattle.authz_gen.proofs.Apart.{names-rise}
 use Rattle.authz_gen.proofs.InOrder.{all-in_order}
 use Rattle.authz_gen.proofs.TreePrintable.{printable, printable-Any, printable-Leaf, printable-Not, printable-and_of, printable-or_of}
-use Rattle.authz_gen.proofs.Widths.{and_width, and_width-Leaf, and_width-Not, and_width-or, or_width, or_width-And, or_width-Any, or_width-Leaf, or_width-Not, or_width-joined}
+use Rattle.authz_gen.proofs.Widths.{and_width, and_width-Leaf, and_width-Not, and_width-or, or_width, or_width-And, or_width-Any}
+use Rattle.authz_gen.proofs.Widths.{or_width-Leaf, or_width-Not, or_width-joined}
 
 some : {A : Type 0} (x : A) (xs : List A) → 0 < length (x ∷ xs)
 some x xs = omega arith
@@ -125,7 +125,8 @@ operation-at (v ∷ vs) (n ∷ ns) hv hn fv fn =
       subst (λ t. or_width t ≤ 1 + length (v ∷ vs)) (sym shape) most,
     )
 
-operation-fits : (o : OperationSpec) → AcceptedOperation o → (fits (operation_tcp o) ≡ true) × (or_width (operation_tcp o) ≤ 1 + length o.ports)
+operation-fits : (o : OperationSpec) → AcceptedOperation o → (fits (operation_tcp o) ≡ true) ×
+    (or_width (operation_tcp o) ≤ 1 + length o.ports)
 unfolding operation_tcp
 operation-fits o h = operation-at o.ports o.not_ports h.ports.each h.not_ports.each h.ports.few h.not_ports.few
 
@@ -182,14 +183,19 @@ rule_policy-fits : (policy : AuthorizationPolicy) (index : ℕ) (rule : Rule) �
     → policy_is_printable (rule_policy_tcp policy (index, rule)) ≡ true
 unfolding rule_policy_tcp policy_is_printable tree_list_is_printable
 rule_policy-fits policy index rule h small =
-    and_from _ _ (and_from _ _ refl (and_from _ _ (permission-fits rule h small) refl)) (and_from _ _ refl (and_from _ _ (printable-Any principal_form) refl))
+    and_from _ _ (and_from _ _ refl (and_from _ _ (permission-fits rule h small) refl))
+    (and_from _ _ refl (and_from _ _ (printable-Any principal_form) refl))
 
 rules-fit : (policy : AuthorizationPolicy) (index : ℕ) (rs : List Rule) → All AcceptedRule rs → IsSmall (sizes.sum_of (map rule_size rs))
     → list_all policy_is_printable (map (rule_policy_tcp policy) (enumerate_from index rs)) ≡ true
 rules-fit policy index [] h small = refl
 rules-fit policy index (rule ∷ rs) h small =
     let first : IsSmall (rule_size rule) = record { values = omega (arith, small.values); entries = omega (arith, small.entries) } in
-    let rest : IsSmall (sizes.sum_of (map rule_size rs)) = record { values = omega (arith, small.values); entries = omega (arith, small.entries) } in
+    let rest : IsSmall (sizes.sum_of (map rule_size rs)) = record {
+      values = omega (arith, small.values);
+      entries = omega
+          (arith, small.entries);
+    } in
     and_from _ _ (rule_policy-fits policy index rule (All-head AcceptedRule rule rs h) first)
     (rules-fit policy (index + 1) rs (All-tail AcceptedRule rule rs h) rest)
 
@@ -198,7 +204,11 @@ policies-fit : (ps : List AuthorizationPolicy) → All AcceptedPolicy ps → IsS
 policies-fit [] h small = refl
 policies-fit (p ∷ ps) h small =
     let first : IsSmall (policy_size p) = record { values = omega (arith, small.values); entries = omega (arith, small.entries) } in
-    let rest : IsSmall (sizes.sum_of (map policy_size ps)) = record { values = omega (arith, small.values); entries = omega (arith, small.entries) } in
+    let rest : IsSmall (sizes.sum_of (map policy_size ps)) = record {
+      values = omega (arith, small.values);
+      entries = omega
+          (arith, small.entries);
+    } in
     list_all-append policy_is_printable (rule_policies_tcp p) (flat_map rule_policies_tcp ps)
     ∙ and_from _ _ (rules-fit p 0 p.rules (All-head AcceptedPolicy p ps h).rules.each first)
     (policies-fit ps (All-tail AcceptedPolicy p ps h) rest)

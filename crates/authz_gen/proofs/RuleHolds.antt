@@ -1,17 +1,16 @@
 -- The policy of a rule holds exactly where the rule does on a TCP port.
 use Rattle.std.proofs.Common.{◌≡◌, ◌==◌, ℕ, Bool, true, false, not, ◌&&◌, ◌||◌, List, [], ◌∷◌, length, map, refl, sym, ◌∙◌, ap}
-use Rattle.std.proofs.Math.Bool.{and-true, or-false}
+use Rattle.std.proofs.Math.Bool.{and-true}
 use Rattle.std.proofs.Math.Dec.{eqb-suc-zero}
 use Rattle.std.proofs.lemmas.Bool.{and_parts}
 use Rattle.std.proofs.lemmas.List.{length-map}
-use Rattle.std.specs.List.{list_all, list_any}
+use Rattle.std.specs.List.{list_any}
 use Rattle.mesh_policy.specs.Attributes.{Seen}
 use Rattle.mesh_policy.specs.Attributes as key
 use Rattle.mesh_policy.specs.RuleHolds as rules
 use Rattle.mesh_policy.specs.declared.case.Case.{Case}
 use Rattle.mesh_policy.specs.declared.condition.Condition.{Condition}
 use Rattle.mesh_policy.specs.declared.policy.Action.{Action}
-use Rattle.mesh_policy.specs.declared.policy.Action.TheVariants as action
 use Rattle.mesh_policy.specs.declared.policy.AuthorizationPolicy.{AuthorizationPolicy}
 use Rattle.mesh_policy.specs.declared.policy.OperationSpec.{OperationSpec}
 use Rattle.mesh_policy.specs.declared.policy.Rule.{Rule}
@@ -57,7 +56,8 @@ module _ (case : Case) (seen : Seen) where
   operation-holds o =
       all-holds permits (field_of (map port_tree o.ports) (map port_tree o.not_ports))
       ∙ field-holds permits port_tree _ port-holds o.ports o.not_ports
-      ∙ sym (and-true _ ∙ and-true (rules.both_hold (rules.number_matches (key.attribute case seen key.destination_port)) o.ports o.not_ports))
+      ∙ sym (and-true _ ∙ and-true (rules.both_hold (rules.number_matches
+      (key.attribute case seen key.destination_port)) o.ports o.not_ports))
 
   one_of-map : {A B : Type 0} (test : B → Bool) (make : A → B) (xs : List A)
       → rules.one_of test (map make xs) ≡ rules.one_of (λ x. test (make x)) xs

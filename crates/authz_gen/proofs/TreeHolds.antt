@@ -1,6 +1,6 @@
 -- What the trees of lists of values hold for.
-use Rattle.std.proofs.Common.{◌≡◌, ◌==◌, ◌<◌, ℕ, Bool, true, false, not, ◌&&◌, ◌||◌, List, [], ◌∷◌, ◌++◌, length, map, Ok, suc, refl, sym, ◌∙◌, ap, arith}
-use Rattle.std.proofs.Math.Bool.{and-true, or-false}
+use Rattle.std.proofs.Common.{◌≡◌, ◌==◌, ◌<◌, Bool, true, not, ◌&&◌, ◌||◌, List, [], ◌∷◌, length, map, Ok, refl, sym, ◌∙◌, ap, arith}
+use Rattle.std.proofs.Math.Bool.{and-true}
 use Rattle.std.proofs.Math.Dec.{eqb-suc-zero}
 use Rattle.std.proofs.lemmas.List.{length-map}
 use Rattle.std.proofs.lemmas.List.Folds.{list_all-append}
@@ -19,7 +19,8 @@ use Rattle.authz_gen.specs.Lists.{all_of, field_of, if_any, none_of}
 some : {A : Type 0} (x : A) (xs : List A) → 0 < length (x ∷ xs)
 some x xs = omega arith
 
-pub list_any-of : {A B : Type 0} (test : B → Bool) (make : A → B) (matches : A → Bool) → ((x : A) → test (make x) ≡ matches x) → (xs : List A)
+pub list_any-of : {A B : Type 0} (test : B → Bool) (make : A → B) (matches : A → Bool) → ((x : A) → test (make x) ≡ matches x) →
+    (xs : List A)
     → list_any test (map make xs) ≡ list_any matches xs
 list_any-of test make matches each [] = refl
 list_any-of test make matches each (x ∷ xs) =

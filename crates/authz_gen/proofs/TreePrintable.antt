@@ -1,6 +1,5 @@
 -- Trees that are joined of trees that can be written can be written, where their lists keep the limit.
-use Rattle.std.proofs.Common.{◌≡◌, ℕ, ◌+◌, ◌<◌, ◌≤◌, Bool, true, false, ◌&&◌, List, [], ◌∷◌, ◌++◌, length, map, refl, sym, ◌∙◌, ap, ap₂, arith, length-append}
-use Rattle.std.proofs.Math.Bool.{and-true}
+use Rattle.std.proofs.Common.{◌≡◌, ◌<◌, ◌≤◌, Bool, true, ◌&&◌, List, [], ◌∷◌, length, map, refl, sym, ◌∙◌, ap, ap₂, arith}
 use Rattle.std.proofs.lemmas.Bool.{and_from, and_parts, leb-true}
 use Rattle.std.proofs.lemmas.List.{length-map}
 use Rattle.std.proofs.lemmas.List.Folds.{list_all-append, list_all-map}
@@ -62,7 +61,8 @@ module _ {L : Type 0} (form : TreeForm L) where
       let both = and_parts (is_within 1 most_entries (length parts)) (list_all printable parts) e in
       (leb-true 1 (length parts) (and_parts _ _ both.0).0, both.1)
 
-  or_entries_at-fit : (t : Tree L) (x : Node-F L (Node L) (Tree L)) → printable t ≡ node_is_printable form (opened (node_is_printable form) x)
+  or_entries_at-fit : (t : Tree L) (x : Node-F L (Node L) (Tree L)) → printable t ≡ node_is_printable form
+      (opened (node_is_printable form) x)
       → printable t ≡ true → Fits (or_entries_at t x)
   or_entries_at-fit t Node-F.Any h e = alone t e
   or_entries_at-fit t (Node-F.Leaf l) h e = alone t e
@@ -73,7 +73,8 @@ module _ {L : Type 0} (form : TreeForm L) where
   or_entries-fit : (t : Tree L) → printable t ≡ true → Fits (or_entries t)
   or_entries-fit t e = or_entries_at-fit t (out-Node L (out-Tree L t).node) (fold-node (node_is_printable form) t) e
 
-  and_entries_at-fit : (t : Tree L) (x : Node-F L (Node L) (Tree L)) → printable t ≡ node_is_printable form (opened (node_is_printable form) x)
+  and_entries_at-fit : (t : Tree L) (x : Node-F L (Node L) (Tree L)) → printable t ≡ node_is_printable form
+      (opened (node_is_printable form) x)
       → printable t ≡ true → Fits (and_entries_at t x)
   and_entries_at-fit t Node-F.Any h e = alone t e
   and_entries_at-fit t (Node-F.Leaf l) h e = alone t e
@@ -93,7 +94,8 @@ module _ {L : Type 0} (form : TreeForm L) where
       let parts = and_parts (printable t) (list_all printable ts) e in
       list_all-append printable (entries t) (flat_map entries ts) ∙ and_from _ _ (each t parts.0).1 (all-fit entries each ts parts.1)
 
-  joined-fit : (entries : Tree L → List (Tree L)) → ((t : Tree L) → printable t ≡ true → Fits (entries t)) → (t : Tree L) (ts : List (Tree L))
+  joined-fit : (entries : Tree L → List (Tree L)) → ((t : Tree L) → printable t ≡ true → Fits (entries t)) → (t : Tree L)
+      (ts : List (Tree L))
       → list_all printable (t ∷ ts) ≡ true → total (λ u. length (entries u)) (t ∷ ts) ≤ 8192 → is_list (flat_map entries (t ∷ ts)) ≡ true
   joined-fit entries each t ts e few =
       let all = flat_map entries (t ∷ ts) in

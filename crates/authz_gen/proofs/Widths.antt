@@ -1,21 +1,15 @@
 -- Trees that can be written: how many entries joined trees have.
-use Rattle.std.proofs.Common.{◌≡◌, ℕ, ◌+◌, ◌<◌, ◌≤◌, Bool, true, false, ◌&&◌, List, [], ◌∷◌, ◌++◌, length, map, suc, refl, sym, ◌∙◌, ap, ap₂, subst, arith, length-append}
-use Rattle.std.proofs.Math.Bool.{and-true}
-use Rattle.std.proofs.lemmas.Bool.{and_from, and_parts, eqb-true, le-leb, leb-true}
-use Rattle.std.proofs.lemmas.List.{length-map}
-use Rattle.std.proofs.lemmas.List.Folds.{list_all-append, list_all-map}
+use Rattle.std.proofs.Common.{◌≡◌, ℕ, ◌+◌, ◌<◌, ◌≤◌, true, List, [], ◌∷◌, length, refl, sym, ◌∙◌, ap, arith, length-append}
+use Rattle.std.proofs.lemmas.Bool.{and_from, and_parts, eqb-true, le-leb}
 use Rattle.std.specs.List.{flat_map, list_all}
 use lib.Dec.{eqb}
 use Rattle.mesh_policy.specs.Lists.{total}
-use Rattle.mesh_tree.specs.Joined.{and_entries, and_entries_at, and_of, or_entries, or_entries_at, or_of}
+use Rattle.mesh_tree.specs.Joined.{and_entries, and_entries_at, or_entries, or_entries_at, or_of}
 use Rattle.mesh_tree.specs.Tree.{node_of, tree_of}
-use Rattle.mesh_tree.specs.declared.tree.Node.{Node, Node-F, fold-Node, fold-roll-Node, out-Node, out-roll-Node}
+use Rattle.mesh_tree.specs.declared.tree.Node.{Node, Node-F, out-Node, out-roll-Node}
 use Rattle.mesh_tree.specs.declared.tree.Node.TheVariants as Node
-use Rattle.mesh_tree.specs.declared.tree.Tree.{Tree, fold-roll-Tree, out-Tree, out-roll-Tree}
-use Rattle.mesh_tree.proofs.FoldLemmas.{fold-node, fold-tree_of, folded-tree_of-And, folded-tree_of-Or, opened}
+use Rattle.mesh_tree.specs.declared.tree.Tree.{Tree, out-roll-Tree}
 use Rattle.envoy_types.specs.SmallForms.{is_within, most_entries}
-use Rattle.envoy_types.specs.TreeForms.{TreeForm, node_is_printable, tree_is_printable}
-use Rattle.authz_gen.specs.Lists.{all_of, none_of}
 
 pub length-flat : {A B : Type 0} (f : A → List B) (xs : List A) → length (flat_map f xs) ≡ total (λ x. length (f x)) xs
 length-flat f [] = refl

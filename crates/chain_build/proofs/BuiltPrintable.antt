@@ -1,5 +1,6 @@
 -- The listener that is built of a workload within its limits can be written.
-use Rattle.std.proofs.Common.{◌≡◌, ℕ, ◌+◌, ◌<◌, ◌≤◌, ◌==◌, Bool, true, false, ◌&&◌, IsTrue, List, [], ◌∷◌, ◌++◌, length, map, cond, Result, Ok, Err, IfOk, refl, sym, ◌∙◌, ap, arith, length-append}
+use Rattle.std.proofs.Common.{◌≡◌, ◌+◌, ◌≤◌, true, IsTrue, List, [], ◌∷◌, ◌++◌, length, map, cond, Result, Ok, Err, IfOk, refl, ◌∙◌, ap}
+use Rattle.std.proofs.Common.{arith, length-append}
 use Rattle.std.proofs.lemmas.List.{map-append}
 use Rattle.std.proofs.Math.Dec.{eqb-suc-zero}
 use Rattle.std.proofs.lemmas.Bool.{and_from, le-leb}
@@ -64,7 +65,8 @@ filter-list action (p ∷ ps) h small =
     let count : length (filters_for action (p ∷ ps)) ≡ 1 = ap length one in
     (omega (arith, count), ap (list_all network_filter_is_printable) one ∙ and_from _ _ (filter-fits action (p ∷ ps) h small) refl)
 
-joined-fit : (xs ys zs : List NetworkFilter) → Fits xs → Fits ys → Fits zs → filters_are_printable network_filter_is_printable (xs ++ ys ++ zs) ≡ true
+joined-fit : (xs ys zs : List NetworkFilter) → Fits xs → Fits ys → Fits zs → filters_are_printable network_filter_is_printable
+    (xs ++ ys ++ zs) ≡ true
 joined-fit xs ys zs hx hy hz =
     let count : length (xs ++ ys ++ zs) + 1 ≤ 8192 = omega (arith, hx.0, hy.0, hz.0, length-append (xs ++ ys) zs, length-append xs ys) in
     and_from _ _ (le-leb (length (xs ++ ys ++ zs) + 1) 8192 count)

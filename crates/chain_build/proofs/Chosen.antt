@@ -1,5 +1,5 @@
 -- Which chain of the built listener a connection goes to.
-use Rattle.std.proofs.Common.{◌≡◌, ℕ, ◌<◌, AllPairs, List, Option, ◌∙◌, ap}
+use Rattle.std.proofs.Common.{◌≡◌, ℕ, ◌<◌, AllPairs, Option, ◌∙◌, ap}
 use Rattle.std.specs.List.{slice_get}
 use Rattle.std.specs.Option.{option_and_then, option_map}
 use Rattle.mesh_policy.specs.Workload.{Workload, mode_of, port_at}

@@ -7,7 +7,8 @@ use Rattle.mesh_select.specs.Workload.{KeepsLimits}
 use Rattle.authz_gen.specs.Policies.{AreTcpPolicies}
 use Rattle.chain_build.specs.Buildable.{IsBuildable}
 
-module _ (workload : Workload) (limits : KeepsLimits workload) (buildable : IsBuildable workload) (policies : List AuthorizationPolicy) where
+module _ (workload : Workload) (limits : KeepsLimits workload) (buildable : IsBuildable workload)
+    (policies : List AuthorizationPolicy) where
   pub audit-policies : policies ≡ workload.audit → AreTcpPolicies Audit policies
   audit-policies e =
       subst (AreTcpPolicies Audit) (sym e) (record { accepted = limits.audit; actions = limits.actions Audit; ports = buildable.audit })

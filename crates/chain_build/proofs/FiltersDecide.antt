@@ -1,9 +1,8 @@
 -- What the filters of a TCP chain decide is what the policies decide.
-use Rattle.std.proofs.Common.{◌≡◌, ◌==◌, Bool, true, false, not, ◌&&◌, ◌||◌, All, IsTrue, List, [], ◌∷◌, ◌++◌, length, cond, if◌then◌else◌, refl, sym, ◌∙◌, ap, ap₂, append_assoc}
+use Rattle.std.proofs.Common.{◌≡◌, ◌==◌, Bool, true, false, not, ◌&&◌, ◌||◌, List, [], ◌∷◌, ◌++◌, length, cond, if◌then◌else◌, refl}
+use Rattle.std.proofs.Common.{sym, ◌∙◌, ap, ap₂, append_assoc}
 use Rattle.std.proofs.Math.Bool.{or-false}
 use Rattle.std.proofs.Math.Dec.{eqb-suc-zero}
-use Rattle.std.proofs.lemmas.List.{append-nil}
-use Rattle.std.specs.List.{list_all}
 use Rattle.mesh_policy.specs.Attributes.{Seen}
 use Rattle.mesh_policy.specs.Verdicts as mesh
 use Rattle.mesh_policy.specs.Verdicts.{decision, some_holds}
@@ -15,7 +14,7 @@ use Rattle.mesh_policy.specs.declared.policy.AuthorizationPolicy.{AuthorizationP
 use Rattle.mesh_policy.specs.declared.service.Protocol.TheVariants as protocol
 use Rattle.mesh_policy.specs.declared.verdict.Outcome.TheVariants.{Admitted, Closed}
 use Rattle.envoy_types.specs.Access.{action_marks, action_passes}
-use Rattle.envoy_types.specs.ListenerVerdict.{start, verdict_of}
+use Rattle.envoy_types.specs.ListenerVerdict.{verdict_of}
 use Rattle.envoy_types.specs.Run.{RunState, Step, goes_on, refuses, run_filters, run_network, then_run}
 use Rattle.envoy_types.specs.declared.chains.NetworkFilter.{NetworkFilter}
 use Rattle.envoy_types.specs.declared.chains.NetworkFilter.TheVariants as filter
@@ -40,9 +39,11 @@ module _ (case : Case) (seen : Seen) where
   abbrev after : (action : Action) (policies : List AuthorizationPolicy) (rest : List NetworkFilter) (audited passes marks : Bool) → Step
   after action policies rest audited passes marks = then_run (if passes then goes_on else refuses) (marked (audited || marks)) (run rest)
 
-  filter-decides : (action : Action) (policies : List AuthorizationPolicy) (rest : List NetworkFilter) (audited : Bool) → AskForPorts policies
+  filter-decides : (action : Action) (policies : List AuthorizationPolicy) (rest : List NetworkFilter) (audited : Bool)
+      → AskForPorts policies
       → run (filter.Rbac (tcp_rbac action policies) ∷ rest) (marked audited)
-      ≡ after action policies rest audited (action_passes (rbac_action action) (holds policies)) (action_marks (rbac_action action) (holds policies))
+      ≡ after action policies rest audited (action_passes (rbac_action action) (holds policies))
+      (action_marks (rbac_action action) (holds policies))
   unfolding tcp_rbac
   filter-decides action policies rest audited h =
       let d = decides action policies h in
@@ -55,7 +56,8 @@ module _ (case : Case) (seen : Seen) where
       → run (filters_for Audit policies ++ rest) (marked audited) ≡ run rest (marked (audited || holds policies))
   audit-runs [] rest audited h = ap (λ b. run rest (marked b)) (sym (or-false audited))
   audit-runs (policy ∷ policies) rest audited h =
-      ap (λ b. run (cond b [] (filter.Rbac (tcp_rbac Audit (policy ∷ policies)) ∷ []) ++ rest) (marked audited)) (eqb-suc-zero (length policies))
+      ap (λ b. run (cond b [] (filter.Rbac (tcp_rbac Audit (policy ∷ policies)) ∷ []) ++ rest) (marked audited))
+      (eqb-suc-zero (length policies))
       ∙ filter-decides Audit (policy ∷ policies) rest audited h
 
   -- DENY refuses what one of its rules holds for
@@ -64,7 +66,8 @@ module _ (case : Case) (seen : Seen) where
       ≡ (if holds policies then record { decision = refuses; state = marked audited } else run rest (marked audited))
   deny-runs [] rest audited h = refl
   deny-runs (policy ∷ policies) rest audited h =
-      ap (λ b. run (cond b [] (filter.Rbac (tcp_rbac Deny (policy ∷ policies)) ∷ []) ++ rest) (marked audited)) (eqb-suc-zero (length policies))
+      ap (λ b. run (cond b [] (filter.Rbac (tcp_rbac Deny (policy ∷ policies)) ∷ []) ++ rest) (marked audited))
+      (eqb-suc-zero (length policies))
       ∙ filter-decides Deny (policy ∷ policies) rest audited h
       ∙ at (holds (policy ∷ policies)) where
         at : (b : Bool) → after Deny (policy ∷ policies) rest audited (not b) false
@@ -116,5 +119,6 @@ module _ (case : Case) (seen : Seen) where
       (allow-runs workload.allow (holds workload.audit) h.allow))
       ∙ joined (holds workload.deny) (not (length workload.allow == 0) && not (holds workload.allow)) (holds workload.audit)
       ∙ sym (ap (λ b. if b then mesh.verdict Closed false else mesh.verdict
-      (if holds workload.deny || (not (length workload.allow == 0) && not (holds workload.allow)) then Closed else Admitted) (holds workload.audit))
+      (if holds workload.deny || (not (length workload.allow == 0) && not (holds workload.allow)) then Closed else Admitted)
+      (holds workload.audit))
       (ap (λ policies. holds policies && mesh.provider_refuses protocol.Tcp case workload.provider) h.custom))

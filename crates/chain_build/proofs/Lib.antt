@@ -4,7 +4,6 @@ pub mod Enforced
 pub mod FiltersDecide
 pub mod Modes
 pub mod Numbers
-pub mod PortNumbers
 pub mod Ports
 pub mod Printable
 pub mod Pruned

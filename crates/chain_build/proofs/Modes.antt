@@ -1,7 +1,6 @@
 -- Of the chains of a port the one that its mode has for the connection is left first.
-use Rattle.std.proofs.Common.{◌≡◌, ℕ, Bool, true, false, ◌||◌, List, [], ◌∷◌, find, Option, Some, None, codes, cond, if◌then◌else◌, refl, sym, ◌∙◌, ap}
+use Rattle.std.proofs.Common.{◌≡◌, ℕ, Bool, true, false, List, [], ◌∷◌, Option, Some, None, codes, if◌then◌else◌, refl}
 use Rattle.std.specs.List.{list_any, slice_get}
-use Rattle.std.specs.Str.{bytes_eq}
 use Rattle.mesh_policy.specs.Connection.{is_mesh_name, mesh_names, offers_mesh_name}
 use Rattle.mesh_policy.specs.declared.case.Tls.{Tls}
 use Rattle.mesh_policy.specs.declared.peer.Mode.{Mode}
@@ -57,7 +56,8 @@ module _ (port : Option ℕ) (filters : List NetworkFilter) where
   -- a mesh name in the offer, wherever it stands, leads to mutual TLS
   abbrev left_of_two : List (List ℕ) → Option FilterChain
   left_of_two names =
-      slice_get (narrowed (names_agreed (agreed_name names (mutual_chain ∷ opaque_chain ∷ []))) is_any_name (mutual_chain ∷ opaque_chain ∷ [])) 0
+      slice_get (narrowed (names_agreed (agreed_name names (mutual_chain ∷ opaque_chain ∷ []))) is_any_name
+      (mutual_chain ∷ opaque_chain ∷ [])) 0
 
   two-left : (names : List (List ℕ)) → left_of_two names ≡ Some (if list_any is_mesh_name names then mutual_chain else opaque_chain)
   unfolding tcp_chain
@@ -71,7 +71,8 @@ module _ (port : Option ℕ) (filters : List NetworkFilter) where
 
   -- ---- the table
 
-  pub left : (mode : Mode) (tls : Option Tls) → slice_get (for_names tls (for_transport tls (tcp_chains mode port filters))) 0 ≡ chain_for mode tls
+  pub left : (mode : Mode) (tls : Option Tls) → slice_get (for_names tls (for_transport tls (tcp_chains mode port filters))) 0
+      ≡ chain_for mode tls
   unfolding tcp_chains tcp_chain
   left Strict None = refl
   left Strict (Some tls) = strict-left tls.alpn

@@ -1,5 +1,6 @@
 -- The chains of the listed ports by their numbers alone, and what the policies of a workload are.
-use Rattle.std.proofs.Common.{◌≡◌, ℕ, ◌<◌, ◌==◌, Bool, true, false, All, AllPairs, List, [], ◌∷◌, ◌++◌, find, flat_map, get_or, map, Option, Some, unwrap_or, cond, suc, refl, sym, ◌∙◌, ap, ap₂, arith}
+use Rattle.std.proofs.Common.{◌≡◌, ℕ, ◌<◌, ◌==◌, Bool, true, false, All, AllPairs, List, [], ◌∷◌, ◌++◌, find, flat_map, get_or, map}
+use Rattle.std.proofs.Common.{Some, unwrap_or, cond, suc, refl, ◌∙◌, ap, arith}
 use Rattle.std.proofs.lemmas.Bool.{eqb-true}
 use Rattle.std.proofs.lemmas.Bool.Decides.{Decides-eqb}
 use Rattle.std.proofs.lemmas.List.Elements.{All-cons, All-head, All-nil, All-tail}

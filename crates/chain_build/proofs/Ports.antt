@@ -1,5 +1,6 @@
 -- Of the chains of a workload those of the connection's port are left.
-use Rattle.std.proofs.Common.{◌≡◌, ℕ, ◌<◌, ◌==◌, Bool, true, false, ◌||◌, All, AllPairs, List, [], ◌∷◌, ◌++◌, filter, find, flat_map, Option, Some, None, is_some, unwrap_or, cond, suc, if◌then◌else◌, refl, sym, ◌∙◌, ap, arith}
+use Rattle.std.proofs.Common.{◌≡◌, ℕ, ◌<◌, ◌==◌, Bool, true, false, ◌||◌, All, AllPairs, List, [], ◌∷◌, ◌++◌, filter, find, flat_map}
+use Rattle.std.proofs.Common.{Option, Some, None, is_some, unwrap_or, cond, suc, refl, ◌∙◌, ap, arith}
 use Rattle.std.proofs.Math.Bool.{or-false}
 use Rattle.std.proofs.lemmas.Bool.{eqb-true}
 use Rattle.std.proofs.lemmas.List.{append-nil}
@@ -160,7 +161,8 @@ module _ (p : ℕ) (filters : List NetworkFilter) where
         whole = listed ports ++ others
 
         at : (found : Option ListedPort) → filter names (listed ports) ≡ chains_found found
-            → cond (is_some found) (filter names (listed ports ++ tcp_chains other None filters)) (filter is_open (listed ports ++ tcp_chains other None filters))
+            → cond (is_some found) (filter names (listed ports ++ tcp_chains other None filters))
+            (filter is_open (listed ports ++ tcp_chains other None filters))
             ≡ left_for other found
         at None e =
             filter-append is_open (listed ports) (tcp_chains other None filters)
@@ -172,8 +174,10 @@ module _ (p : ℕ) (filters : List NetworkFilter) where
             ∙ append-nil (filter names (listed ports)) ∙ e
 
 -- those of the port's mode, and of the mode of the ports that are not listed where it is none
-pub kept-port : (workload : Workload) (filters : List NetworkFilter) (p : ℕ) → AllPairs (λ port later. port.number < later.number) workload.ports
-    → for_port p (chains_with workload filters) ≡ tcp_chains (mode_of workload p) (option_map (λ port. port.number) (port_at workload p)) filters
+pub kept-port : (workload : Workload) (filters : List NetworkFilter) (p : ℕ) → AllPairs
+    (λ port later. port.number < later.number) workload.ports
+    → for_port p (chains_with workload filters) ≡ tcp_chains (mode_of workload p)
+    (option_map (λ port. port.number) (port_at workload p)) filters
 unfolding chains_with
 kept-port workload filters p rising = left-at p filters workload.other_mode workload.ports rising ∙ at (port_at workload p) where
   at : (found : Option ListedPort)

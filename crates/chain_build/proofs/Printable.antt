@@ -1,12 +1,12 @@
 -- The built listener can be written: its filters, ports and lists keep their limits, and no two chains clash.
-use Rattle.std.proofs.Common.{◌≡◌, ℕ, ◌+◌, ◌*◌, ◌<◌, ◌≤◌, ◌==◌, Bool, true, false, not, ◌&&◌, All, AllPairs, IsTrue, List, [], ◌∷◌, ◌++◌, length, map, flat_map, Option, Some, None, cond, suc, refl, sym, ◌∙◌, ap, ap₂, append_assoc, arith, length-append}
-use Rattle.std.proofs.Math.Dec.{eqb-suc-zero}
-use Rattle.std.proofs.lemmas.Bool.{and_from, and_parts, eqb-true, le-leb}
+use Rattle.std.proofs.Common.{◌≡◌, ℕ, ◌*◌, ◌<◌, ◌≤◌, ◌==◌, Bool, true, false, not, ◌&&◌, All, AllPairs, IsTrue, List, [], ◌∷◌, ◌++◌}
+use Rattle.std.proofs.Common.{length, flat_map, Option, Some, None, suc, refl, ◌∙◌, ap, append_assoc, arith, length-append}
+use Rattle.std.proofs.lemmas.Bool.{and_from, and_parts, eqb-true}
 use Rattle.std.proofs.lemmas.List.Elements.{All-head, All-tail}
 use Rattle.std.proofs.lemmas.List.Folds.{list_all-append}
 use Rattle.std.specs.List.{list_all}
 use Rattle.mesh_policy.specs.Values.{is_port}
-use Rattle.mesh_policy.specs.Workload.{ListedPort, Workload}
+use Rattle.mesh_policy.specs.Workload.{ListedPort}
 use Rattle.mesh_policy.specs.declared.peer.Mode.{Mode}
 use Rattle.mesh_policy.specs.declared.peer.Mode.TheVariants.{Disable, Permissive, Strict}
 use Rattle.envoy_types.specs.ChainForms.{are_distinct, chain_is_printable, clashes, match_is_printable, port_is_printable, same_port}
@@ -42,7 +42,8 @@ module _ (filters : List NetworkFilter) where
 
   -- by transport protocol and by names, whatever the port
   three : (same : Bool)
-      → ((not ((same && false) && false) && (not ((same && true) && false) && true)) && ((not ((same && false) && true) && true) && true)) ≡ true
+      → ((not ((same && false) && false) && (not ((same && true) && false) && true)) &&
+      ((not ((same && false) && true) && true) && true)) ≡ true
   three true = refl
   three false = refl
 
@@ -128,7 +129,8 @@ module _ (filters : List NetworkFilter) where
   -- ---- each can be written
 
   module _ (fit : filters_are_printable network_filter_is_printable filters ≡ true) where
-    chains-fit : (mode : Mode) (port : Option ℕ) → port_is_printable port ≡ true → list_all chain_is_printable (tcp_chains mode port filters) ≡ true
+    chains-fit : (mode : Mode) (port : Option ℕ) → port_is_printable port ≡ true → list_all chain_is_printable
+        (tcp_chains mode port filters) ≡ true
     unfolding tcp_chains tcp_chain chain_is_printable match_is_printable body_is_printable
     chains-fit Strict port e = rw (e, fit) refl
     chains-fit Permissive port e = rw (e, fit) refl

@@ -1,5 +1,6 @@
 -- Pruning keeps chains in their places: the chain that is chosen is the first that is left of the chains alone.
-use Rattle.std.proofs.Common.{◌≡◌, ℕ, ◌+◌, Bool, true, false, ◌||◌, List, [], ◌∷◌, ◌++◌, length, map, filter, find, Option, Some, None, cond, if◌then◌else◌, refl, sym, subst, ◌∙◌, ap, append_assoc, arith, length-append}
+use Rattle.std.proofs.Common.{◌≡◌, ℕ, ◌+◌, Bool, true, false, ◌||◌, List, [], ◌∷◌, ◌++◌, length, map, filter, find, Option, Some, cond}
+use Rattle.std.proofs.Common.{if◌then◌else◌, refl, subst, ◌∙◌, ap, append_assoc, arith, length-append}
 use Rattle.std.specs.List.{list_any, slice_get}
 use Rattle.std.specs.Option.{option_and_then, option_map}
 use Rattle.mesh_policy.specs.declared.case.Case.{Case}
@@ -82,7 +83,8 @@ pruned-in : (chains : List FilterChain) (case : Case)
 pruned-in chains case =
     names-in case.tls (envoy.for_transport case.tls (envoy.for_port case.port (placed_from 0 chains)))
     ∙ ap (for_names case.tls)
-    (narrowed-in (envoy.names_transport (envoy.transport_of case.tls)) envoy.is_any_transport (envoy.for_port case.port (placed_from 0 chains))
+    (narrowed-in (envoy.names_transport (envoy.transport_of case.tls)) envoy.is_any_transport
+    (envoy.for_port case.port (placed_from 0 chains))
     ∙ ap (for_transport case.tls)
     (narrowed-in (envoy.names_port case.port) envoy.is_any_port (placed_from 0 chains) ∙ ap (for_port case.port) (placed-in 0 chains)))
 
@@ -92,7 +94,8 @@ abbrev Stand : List FilterChain → List Placed → Type 0
 Stand chains [] = Unit {0}
 Stand chains (c ∷ placed) = (slice_get chains c.position ≡ Some c.chain) × Stand chains placed
 
-stand-filter : (chains : List FilterChain) (test : Placed → Bool) (placed : List Placed) → Stand chains placed → Stand chains (filter test placed)
+stand-filter : (chains : List FilterChain) (test : Placed → Bool) (placed : List Placed) → Stand chains placed → Stand chains
+    (filter test placed)
 stand-filter chains test [] h = h
 stand-filter chains test (c ∷ placed) h = at (test c) (stand-filter chains test placed h.1) where
   at : (b : Bool) → Stand chains (filter test placed) → Stand chains (cond b (c ∷ filter test placed) (filter test placed))
@@ -106,7 +109,8 @@ stand-narrowed chains names is_open placed h = at (list_any (λ c. names c.chain
   at true = stand-filter chains (λ c. names c.chain.matching) placed h
   at false = stand-filter chains (λ c. is_open c.chain.matching) placed h
 
-behind-front : (front : List FilterChain) (c : FilterChain) (rest : List FilterChain) → slice_get (front ++ c ∷ rest) (length front) ≡ Some c
+behind-front : (front : List FilterChain) (c : FilterChain) (rest : List FilterChain) → slice_get (front ++ c ∷ rest) (length front)
+    ≡ Some c
 behind-front [] c rest = refl
 behind-front (d ∷ front) c rest = behind-front front c rest
 
@@ -115,7 +119,8 @@ stand-placed front [] k e = tt
 stand-placed front (c ∷ rest) k e =
     let next : k + 1 ≡ length (front ++ c ∷ []) = omega (arith, e, length-append front (c ∷ [])) in (
       ap (slice_get (front ++ c ∷ rest)) e ∙ behind-front front c rest,
-      subst (λ chains. Stand chains (placed_from (k + 1) rest)) (append_assoc front (c ∷ []) rest) (stand-placed (front ++ c ∷ []) rest (k + 1) next),
+      subst (λ chains. Stand chains (placed_from (k + 1) rest)) (append_assoc front (c ∷ []) rest)
+          (stand-placed (front ++ c ∷ []) rest (k + 1) next),
     )
 
 first-stands : (chains : List FilterChain) (placed : List Placed) → Stand chains placed

@@ -1,6 +1,6 @@
 -- The value that is written of the listener that is built is nested little, and holds no float.
 use Rattle.std.proofs.Common.{◌≡◌, ℕ, suc, ◌+◌, ◌≤◌, Bool, true, false, List, [], ◌∷◌, ◌++◌, codes, Option, None, Some, length, map, refl}
-use Rattle.std.proofs.Common.{◌∙◌}
+use Rattle.std.proofs.Common.{◌∙◌, Result, Ok, Err, IfOk, ap, subst, sym}
 use Rattle.std.proofs.Math.Dec.{eqb-suc-zero}
 use Rattle.std.proofs.lemmas.Bool.{and_from, and_parts}
 use Rattle.std.proofs.lemmas.List.Folds.{list_all-append}
@@ -8,6 +8,7 @@ use Rattle.std.specs.List.{enumerate_from, flat_map}
 use Rattle.std.specs.Option.{option_map}
 use Rattle.serde_json.specs.Data.{string, depth}
 use Rattle.serde_json.specs.Written.{has_float}
+use Rattle.mesh_text.specs.declared.memory.Memory.{Memory}
 use Rattle.mesh_policy.specs.Connection.{mesh_names}
 use Rattle.mesh_policy.specs.Workload.{ListedPort, Workload}
 use Rattle.mesh_policy.specs.declared.peer.Mode.{Mode}
@@ -29,6 +30,7 @@ use Rattle.envoy_types.specs.WrittenFields.{config_written, field, list_field, l
 use Rattle.envoy_types.specs.WrittenFields.{optional_field}
 use Rattle.envoy_types.specs.declared.access.RbacPolicy.{RbacPolicy}
 use Rattle.envoy_types.specs.declared.chains.FilterChain.{FilterChain}
+use Rattle.envoy_types.specs.declared.chains.Listener.{Listener}
 use Rattle.envoy_types.specs.declared.chains.NetworkFilter.{NetworkFilter}
 use Rattle.envoy_types.specs.declared.chains.NetworkFilter.TheVariants as filter
 use Rattle.envoy_types.specs.declared.chains.ChainBody.TheVariants.{Tcp}
@@ -269,3 +271,14 @@ shallow w = small-depth 127 (listener_written (built w)) (built-small w)
 
 pub whole : (w : Workload) → has_float (listener_written (built w)) ≡ false
 whole w = small-whole 127 (listener_written (built w)) (built-small w)
+
+-- The same of the answer of a build.
+pub shallow-answer : (w : Workload) (r : Result Listener Memory) → IfOk r (λ listener. listener ≡ built w)
+    → IfOk r (λ listener. depth (listener_written listener) ≤ 127)
+shallow-answer w (Ok listener) e = subst (λ l. depth (listener_written l) ≤ 127) (sym e) (shallow w)
+shallow-answer w (Err e) shape = tt
+
+pub whole-answer : (w : Workload) (r : Result Listener Memory) → IfOk r (λ listener. listener ≡ built w)
+    → IfOk r (λ listener. has_float (listener_written listener) ≡ false)
+whole-answer w (Ok listener) e = ap (λ l. has_float (listener_written l)) e ∙ whole w
+whole-answer w (Err e) shape = tt

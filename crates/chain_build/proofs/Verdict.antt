@@ -1,5 +1,6 @@
 -- The built listener gives each connection the verdict of the policies.
-use Rattle.std.proofs.Common.{◌≡◌, ℕ, ◌==◌, ◌<◌, Bool, true, false, All, AllPairs, List, [], ◌∷◌, find, Option, Some, None, is_some, cond, unwrap_or, Result, Ok, Err, IfOk, refl, sym, ◌∙◌, ap}
+use Rattle.std.proofs.Common.{◌≡◌, ℕ, ◌==◌, ◌<◌, Bool, true, false, All, AllPairs, List, [], ◌∷◌, find, Option, Some, None, is_some}
+use Rattle.std.proofs.Common.{cond, unwrap_or, Result, Ok, Err, IfOk, refl, sym, ◌∙◌, ap}
 use Rattle.std.proofs.lemmas.List.Elements.{All-head, All-tail}
 use Rattle.std.specs.Option.{option_map}
 use Rattle.mesh_policy.specs.Connection.{offers_mesh_name, passage}
@@ -9,7 +10,6 @@ use Rattle.mesh_policy.specs.declared.case.Case.{Case}
 use Rattle.mesh_policy.specs.declared.case.Tls.{Tls}
 use Rattle.mesh_policy.specs.declared.peer.Mode.{Mode}
 use Rattle.mesh_policy.specs.declared.peer.Mode.TheVariants.{Disable, Permissive, Strict}
-use Rattle.mesh_policy.specs.declared.service.Protocol.{Protocol}
 use Rattle.mesh_policy.specs.declared.service.Protocol.TheVariants.{Tcp}
 use Rattle.mesh_policy.specs.declared.verdict.Verdict.{Verdict}
 use Rattle.mesh_text.specs.declared.memory.Memory.{Memory}
@@ -63,7 +63,8 @@ module _ (workload : Workload) (h : IsBuildable workload) (port : Option ℕ) (c
 
   strict-agrees : (tls : Tls) (shown : Bool) → is_some tls.peer ≡ shown → given Strict (Some tls) ≡ said Strict (Some tls)
   unfolding tcp_chain
-  strict-agrees tls true e = rw e (filters-decide (with_tls c (Some tls)) (record { request = false; peer = true; claims = None }) workload h)
+  strict-agrees tls true e = rw e (filters-decide (with_tls c (Some tls))
+      (record { request = false; peer = true; claims = None }) workload h)
   strict-agrees tls false e = rw e refl
 
   permissive-agrees : (tls : Tls) (offers shown : Bool) → offers_mesh_name tls ≡ offers → is_some tls.peer ≡ shown

@@ -1,7 +1,7 @@
 -- Which workloads a listener is built for so far.
 use Rattle.std.specs.Prelude.{◌≡◌, All, IsTrue, List, []}
 use Rattle.std.specs.List.{list_all}
-use Rattle.mesh_policy.specs.Workload.{ListedPort, Workload}
+use Rattle.mesh_policy.specs.Workload.{Workload}
 use Rattle.mesh_policy.specs.declared.policy.AuthorizationPolicy.{AuthorizationPolicy}
 use Rattle.mesh_policy.specs.declared.service.Protocol.TheVariants.{Tcp}
 use Rattle.authz_gen.specs.Operations.{asks_for_ports}

@@ -1,9 +1,11 @@
 // Builds the inbound listener that enforces the policies of a workload.
-ghost use Rattle.std.specs.Prelude.{◌≡◌, ◌++◌, Some, flat_map, IfOk, IsTrue};
+ghost use Rattle.std.specs.Prelude.{◌≡◌, ◌≤◌, ◌++◌, false, Some, flat_map, IfOk, IsTrue};
+ghost use Rattle.serde_json.specs.Data.{depth};
+ghost use Rattle.serde_json.specs.Written.{has_float};
 ghost use Rattle.mesh_policy.specs.Verdicts.{verdict_of};
 ghost use Rattle.mesh_policy.specs.Workload.{listed_of, mode_of};
 ghost use Rattle.mesh_policy.specs.declared.case.Case.{Case};
-ghost use Rattle.envoy_types.specs.ListenerForms.{is_printable};
+ghost use Rattle.envoy_types.specs.ListenerForms.{is_printable, listener_written};
 ghost use Rattle.envoy_types.specs.ListenerVerdict.{envoy_verdict};
 ghost use Rattle.chain_build.specs.Buildable.{IsBuildable};
 ghost use Rattle.chain_build.specs.Chains.{tcp_chains};
@@ -17,11 +19,14 @@ use mesh_text::{List, Memory, Text};
 use std::alloc::Global;
 
 /// The listener of a workload. It has the chains of each listed port, ascending, by the port's mode, and then those of all
-/// other ports, which name none. It can be written as JSON, and gives each connection the verdict of the policies.
+/// other ports, which name none. It can be written as JSON, which is nested at most 127 deep, and gives each connection the
+/// verdict of the policies.
 pub fn build(alloc: Global, w: &Workload) -> Result<Listener, Memory>
     requires { IsBuildable w.now }
     ensures shape { IfOk result (λ listener. listener ≡ meaning.built w.now) }
     ensures printable { IfOk result (λ listener. IsTrue (is_printable listener)) }
+    ensures shallow { IfOk result (λ listener. depth (listener_written listener) ≤ 127) }
+    ensures no_float { IfOk result (λ listener. has_float (listener_written listener) ≡ false) }
     ensures verdicts { IfOk result (λ listener. (case : Case) → envoy_verdict listener case ≡ verdict_of w.now case) }
 {
     w.limits();

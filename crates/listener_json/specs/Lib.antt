@@ -1,3 +1,4 @@
+pub mod Keys
 pub mod Tokens
 pub use Rattle.serde_json.specs.View
 pub use Rattle.envoy_types.specs.ListenerForms

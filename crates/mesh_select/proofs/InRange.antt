@@ -1,16 +1,17 @@
 -- Each listed port of an accepted Pod is a port from 1 to 65,535.
-use Rattle.std.proofs.Common.{◌≡◌, ℕ, ◌++◌, Bool, true, false, cond, All, IsTrue, List, [], ◌∷◌, filter, find, map, Option, Some, None, refl, subst}
+use Rattle.std.proofs.Common.{◌≡◌, ℕ, ◌++◌, Bool, true, false, cond, All, IsTrue, List, [], ◌∷◌, filter, find, map, Option, Some, None}
+use Rattle.std.proofs.Common.{refl, subst}
 use Rattle.std.proofs.lemmas.List.Elements.{All-append, All-cons, All-filter, All-head, All-map, All-nil, All-tail, All-weaker}
 use Rattle.std.proofs.lemmas.Map.Views.{All-insert_key}
 use Rattle.std.specs.BTreeSet.{insert_key}
-use Rattle.std.specs.List.{cons_option, filter_map, flat_map, fold}
+use Rattle.std.specs.List.{cons_option, filter_map, fold}
 use Rattle.std.specs.Option.{option_map}
 use Rattle.std.specs.Ordering.{nat_cmp}
 use Rattle.std.specs.Str.{bytes_eq}
 use Rattle.mesh_policy.specs.AcceptedBundle.{AcceptedBundle, AcceptedPeer, AcceptedPod, AcceptedService, AcceptedServicePort, is_target}
 use Rattle.mesh_policy.specs.Applying.{peers_of}
-use Rattle.mesh_policy.specs.Lists.{ascending, least}
-use Rattle.mesh_policy.specs.Modes.{has_selector, is_older, oldest, workload_policy}
+use Rattle.mesh_policy.specs.Lists.{least}
+use Rattle.mesh_policy.specs.Modes.{has_selector, is_older, workload_policy}
 use Rattle.mesh_policy.specs.Ports.{GivenPort, given, given_by, listed, ports_of, protocol_of, selects, target_number}
 use Rattle.mesh_policy.specs.Values.{is_port}
 use Rattle.mesh_policy.specs.declared.bundle.Bundle.{Bundle}

@@ -1,5 +1,6 @@
 -- The workload of a Pod that no reason speaks against keeps the limits.
-use Rattle.std.proofs.Common.{◌≡◌, ℕ, ◌≤◌, Bool, true, false, cond, ◌&&◌, ◌<◌, ◌++◌, All, AllPairs, IsTrue, List, [], ◌∷◌, length, map, filter, find, bytes_eq, get_or, is_some, Option, Some, None, nat_lt, refl, sym, ◌∙◌, ap₂, subst, arith}
+use Rattle.std.proofs.Common.{◌≡◌, ℕ, ◌≤◌, Bool, true, false, cond, ◌&&◌, ◌<◌, ◌++◌, All, AllPairs, IsTrue, List, length, map, filter}
+use Rattle.std.proofs.Common.{bytes_eq, get_or, is_some, Option, Some, None, nat_lt, refl, sym, ◌∙◌, ap₂, subst, arith}
 use Rattle.std.proofs.lemmas.Bool.Decides.{nat_tests}
 use Rattle.std.proofs.lemmas.List.{length-map}
 use Rattle.std.proofs.lemmas.List.Elements.{All-filter, All-map, All-weaker, filter_passes}
@@ -135,7 +136,8 @@ module _ (bundle : Bundle) (pod : Pod) (accepted : AcceptedBundle bundle) where
   unfolding workload_of
   keeps-limits container h = record {
     ports = subst (λ n. n ≤ 16) (sym (length-map (listed bundle pod) (port_of bundle pod))) (few-listed (no-number h));
-    numbers = All-map (λ (port : ListedPort). IsPort port.number) (port_of bundle pod) (listed bundle pod) (listed-ports pod container bundle accepted);
+    numbers = All-map (λ (port : ListedPort). IsPort port.number) (port_of bundle pod) (listed bundle pod)
+        (listed-ports pod container bundle accepted);
     rising = pairs-map (λ (port later : ListedPort). port.number < later.number) (port_of bundle pod) (listed bundle pod) listed-rises;
     size = size-by_action (authorization_of bundle pod) (jwt_rules_of bundle pod) ∙ within-limit (no-size h);
     actions = has-actions;

@@ -8,5 +8,6 @@ use Rattle.chain_build.proofs.listener.listed_chains.Given as goal
 
 abbrev pub invariant-loop-port : goal.invariant-loop-port
 invariant-loop-port l =
-    l.chains ++ flat_map (λ port. tcp_chains (mode_of l.workload port) (Some port) (tcp_filters l.workload)) (drop l.port-index l.port-items)
+    l.chains ++ flat_map (λ port. tcp_chains (mode_of l.workload port) (Some port) (tcp_filters l.workload))
+    (drop l.port-index l.port-items)
     ≡ flat_map (λ port. tcp_chains (mode_of l.workload port) (Some port) (tcp_filters l.workload)) l.port-items

@@ -1,0 +1,9 @@
+-- The first chain that clashes is the first of those that are left, behind those before them.
+use Rattle.std.proofs.Common.{◌≡◌, [], take, drop}
+use Rattle.mesh_doc.specs.Faults.{first}
+use Rattle.envoy_types.specs.ChainForms.{duplicates}
+use Rattle.listener_json.proofs.read_clashes.distinct.Given as goal
+
+abbrev pub invariant-loop-i : goal.invariant-loop-i
+invariant-loop-i l =
+    first (duplicates [] 0 l.chains l.at) ≡ first (duplicates (take l.i l.chains) l.i (drop l.i l.chains) l.at)

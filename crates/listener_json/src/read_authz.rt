@@ -1,0 +1,260 @@
+//! Filters of external authorization, read from JSON.
+ghost use Rattle.serde_json.specs.View.{view};
+ghost use Rattle.mesh_doc.specs.Faults.{Reads};
+ghost use Rattle.mesh_doc.specs.Fields as fields;
+ghost use Rattle.envoy_types.specs.AuthzForms as form;
+ghost use Rattle.envoy_types.specs.declared.keys.TheConstants as keys;
+
+use crate::read_lists::{Plain, Sole, required_with};
+use crate::read_parts::or_second;
+use envoy_types::fixed::{ANSWER_TIME, API_VERSION, TCP_PREFIX};
+use envoy_types::keys::{
+    CLUSTER, CLUSTER_NAME, ENVOY_GRPC, FAILURE_MODE_ALLOW, FILTER, FILTER_ENABLED_METADATA,
+    GRPC_SERVICE, HTTP_SERVICE, PATH, SERVER_URI, STAT_PREFIX, STRING_MATCH, TIMEOUT,
+    TRANSPORT_API_VERSION, TYPE, URI, VALUE,
+};
+use envoy_types::{
+    AuthService, ExtAuthz, HTTP_AUTHZ_NAME, HTTP_AUTHZ_TYPE, HTTP_RBAC_NAME, NETWORK_AUTHZ_NAME,
+    NETWORK_AUTHZ_TYPE, NETWORK_RBAC_NAME, StringMatcher,
+};
+use leaf_json::{SegmentForm, StringForm, fixed_field, named, one_of};
+use mesh_doc::{
+    AnyText, AnyTruth, DocError, Form, Spot, optional_written, required_written, written,
+};
+use mesh_text::Text;
+use serde_json::Value;
+use std::alloc::Global;
+
+/// The filter of HTTP chains.
+pub(crate) fn read_http_authz(alloc: Global, v: &Value, at: &Spot) -> Result<ExtAuthz, DocError>
+    ensures { Reads result (form.http_authz_faults (view v.now) at.now) (form.authz_in (view v.now)) }
+{
+    named::<HttpConfig>(alloc, v, HTTP_AUTHZ_NAME, at)
+}
+
+/// The filter of TCP chains.
+pub(crate) fn read_network_authz(
+    alloc: Global,
+    v: &Value,
+    at: &Spot,
+) -> Result<ExtAuthz, DocError>
+    ensures { Reads result (form.network_authz_faults (view v.now) at.now) (form.authz_in (view v.now)) }
+{
+    named::<NetworkConfig>(alloc, v, NETWORK_AUTHZ_NAME, at)
+}
+
+struct HttpConfig;
+
+impl Form for HttpConfig {
+    type Out = ExtAuthz;
+
+    ghost faults = { form.http_authz_config_faults };
+
+    ghost value = { form.authz_config_in };
+
+    #[tactic(auto, unfolding(envoy_types::specs::AuthzForms::http_authz_config_faults, envoy_types::specs::AuthzForms::authz_config_in, envoy_types::specs::AuthzForms::service_in, envoy_types::specs::SmallForms::one_of, mesh_doc::specs::Fields::optional_written_in))]
+    fn read(alloc: Global, v: &Value, at: &Spot) -> Result<ExtAuthz, DocError> {
+        at.only_fields(
+            alloc,
+            v,
+            &[
+                TYPE,
+                FAILURE_MODE_ALLOW,
+                FILTER_ENABLED_METADATA,
+                GRPC_SERVICE,
+                HTTP_SERVICE,
+                TRANSPORT_API_VERSION,
+            ],
+        )?;
+        one_of(alloc, v, &[GRPC_SERVICE, HTTP_SERVICE], at)?;
+        fixed_field(alloc, v, TYPE, HTTP_AUTHZ_TYPE, at)?;
+        let fail_open = optional_written::<AnyTruth>(alloc, v, FAILURE_MODE_ALLOW, at)?;
+        let (enabled_key, enabled) = enabled_field(alloc, v, HTTP_RBAC_NAME, at)?;
+        let grpc = optional_written::<GrpcService>(alloc, v, GRPC_SERVICE, at)?;
+        let service = or_second::<HttpService>(alloc, grpc, v, GRPC_SERVICE, HTTP_SERVICE, at)?;
+        fixed_field(alloc, v, TRANSPORT_API_VERSION, API_VERSION, at)?;
+        Ok(ExtAuthz {
+            service,
+            fail_open: fail_open.unwrap_or(false),
+            enabled_key,
+            enabled,
+        })
+    }
+}
+
+struct NetworkConfig;
+
+impl Form for NetworkConfig {
+    type Out = ExtAuthz;
+
+    ghost faults = { form.network_authz_config_faults };
+
+    ghost value = { form.authz_config_in };
+
+    #[tactic(auto, unfolding(envoy_types::specs::AuthzForms::network_authz_config_faults, envoy_types::specs::AuthzForms::authz_config_in))]
+    fn read(alloc: Global, v: &Value, at: &Spot) -> Result<ExtAuthz, DocError> {
+        at.only_fields(
+            alloc,
+            v,
+            &[
+                TYPE,
+                FAILURE_MODE_ALLOW,
+                FILTER_ENABLED_METADATA,
+                GRPC_SERVICE,
+                STAT_PREFIX,
+                TRANSPORT_API_VERSION,
+            ],
+        )?;
+        fixed_field(alloc, v, TYPE, NETWORK_AUTHZ_TYPE, at)?;
+        let fail_open = optional_written::<AnyTruth>(alloc, v, FAILURE_MODE_ALLOW, at)?;
+        let (enabled_key, enabled) = enabled_field(alloc, v, NETWORK_RBAC_NAME, at)?;
+        let service = grpc_alone(alloc, v, at)?;
+        fixed_field(alloc, v, STAT_PREFIX, TCP_PREFIX, at)?;
+        fixed_field(alloc, v, TRANSPORT_API_VERSION, API_VERSION, at)?;
+        Ok(ExtAuthz {
+            service,
+            fail_open: fail_open.unwrap_or(false),
+            enabled_key,
+            enabled,
+        })
+    }
+}
+
+// The service where there is but one form of it.
+#[tactic(auto, unfolding(envoy_types::specs::AuthzForms::service_in, mesh_doc::specs::Fields::required_written, mesh_doc::specs::Fields::required_written_in, mesh_doc::specs::Fields::optional_written_in))]
+fn grpc_alone(alloc: Global, v: &Value, at: &Spot) -> Result<AuthService, DocError>
+    ensures { Reads result
+        (fields.required_written keys.GRPC_SERVICE.now form.grpc_service_faults (view v.now) at.now)
+        (form.service_in (view v.now)) }
+{
+    required_written::<GrpcService>(alloc, v, GRPC_SERVICE, at)
+}
+
+// When the authorizer is asked, by the name of the RBAC filter whose metadata is looked at: the key, and the matcher.
+#[tactic(auto, unfolding(mesh_doc::specs::Fields::required_written, mesh_doc::specs::Fields::required_written_in))]
+fn enabled_field(
+    alloc: Global,
+    v: &Value,
+    rbac_name: &str,
+    at: &Spot,
+) -> Result<(Text, StringMatcher), DocError>
+    ensures { Reads result
+        (fields.required_written keys.FILTER_ENABLED_METADATA.now (form.enabled_faults rbac_name.now) (view v.now) at.now)
+        (fields.required_written_in keys.FILTER_ENABLED_METADATA.now form.enabled_key_in (view v.now),
+        fields.required_written_in keys.FILTER_ENABLED_METADATA.now form.enabled_in (view v.now)) }
+{
+    match written(v, FILTER_ENABLED_METADATA) {
+        Some(found) => {
+            let inside = Spot::key(at, FILTER_ENABLED_METADATA);
+            enabled(alloc, found, rbac_name, &inside)
+        }
+        None => Err(at.missing(alloc, FILTER_ENABLED_METADATA)),
+    }
+}
+
+#[tactic(auto, unfolding(envoy_types::specs::AuthzForms::enabled_faults, envoy_types::specs::AuthzForms::enabled_key_in, envoy_types::specs::AuthzForms::enabled_in))]
+fn enabled(
+    alloc: Global,
+    v: &Value,
+    rbac_name: &str,
+    at: &Spot,
+) -> Result<(Text, StringMatcher), DocError>
+    ensures { Reads result
+        (form.enabled_faults rbac_name.now (view v.now) at.now)
+        (form.enabled_key_in (view v.now), form.enabled_in (view v.now)) }
+{
+    at.only_fields(alloc, v, &[FILTER, PATH, VALUE])?;
+    fixed_field(alloc, v, FILTER, rbac_name, at)?;
+    let key = required_with::<Sole<Plain<SegmentForm>>>(alloc, &(), v, PATH, at)?;
+    let matcher = required_written::<EnabledValue>(alloc, v, VALUE, at)?;
+    Ok((key, matcher))
+}
+
+struct EnabledValue;
+
+impl Form for EnabledValue {
+    ghost use Rattle.envoy_types.specs.StringForms.{string_in};
+
+    type Out = StringMatcher;
+
+    ghost faults = { form.enabled_value_faults };
+
+    ghost value = { fields.required_written_in keys.STRING_MATCH.now string_in };
+
+    #[tactic(auto, unfolding(envoy_types::specs::AuthzForms::enabled_value_faults))]
+    fn read(alloc: Global, v: &Value, at: &Spot) -> Result<StringMatcher, DocError> {
+        at.only_fields(alloc, v, &[STRING_MATCH])?;
+        required_written::<StringForm>(alloc, v, STRING_MATCH, at)
+    }
+}
+
+struct GrpcService;
+
+impl Form for GrpcService {
+    type Out = AuthService;
+
+    ghost faults = { form.grpc_service_faults };
+
+    ghost value = { form.grpc_service_in };
+
+    #[tactic(auto, unfolding(envoy_types::specs::AuthzForms::grpc_service_faults, envoy_types::specs::AuthzForms::grpc_service_in))]
+    fn read(alloc: Global, v: &Value, at: &Spot) -> Result<AuthService, DocError> {
+        at.only_fields(alloc, v, &[ENVOY_GRPC, TIMEOUT])?;
+        let cluster = required_written::<EnvoyGrpc>(alloc, v, ENVOY_GRPC, at)?;
+        fixed_field(alloc, v, TIMEOUT, ANSWER_TIME, at)?;
+        Ok(AuthService::Grpc { cluster })
+    }
+}
+
+struct EnvoyGrpc;
+
+impl Form for EnvoyGrpc {
+    ghost use Rattle.mesh_doc.specs.Kinds.{text_in};
+
+    type Out = Text;
+
+    ghost faults = { form.envoy_grpc_faults };
+
+    ghost value = { fields.required_written_in keys.CLUSTER_NAME.now text_in };
+
+    #[tactic(auto, unfolding(envoy_types::specs::AuthzForms::envoy_grpc_faults))]
+    fn read(alloc: Global, v: &Value, at: &Spot) -> Result<Text, DocError> {
+        at.only_fields(alloc, v, &[CLUSTER_NAME])?;
+        required_written::<AnyText>(alloc, v, CLUSTER_NAME, at)
+    }
+}
+
+struct HttpService;
+
+impl Form for HttpService {
+    type Out = AuthService;
+
+    ghost faults = { form.http_service_faults };
+
+    ghost value = { form.http_service_in };
+
+    #[tactic(auto, unfolding(envoy_types::specs::AuthzForms::http_service_faults, envoy_types::specs::AuthzForms::http_service_in))]
+    fn read(alloc: Global, v: &Value, at: &Spot) -> Result<AuthService, DocError> {
+        at.only_fields(alloc, v, &[SERVER_URI])?;
+        required_written::<ServerUri>(alloc, v, SERVER_URI, at)
+    }
+}
+
+struct ServerUri;
+
+impl Form for ServerUri {
+    type Out = AuthService;
+
+    ghost faults = { form.server_uri_faults };
+
+    ghost value = { form.server_uri_in };
+
+    #[tactic(auto, unfolding(envoy_types::specs::AuthzForms::server_uri_faults, envoy_types::specs::AuthzForms::server_uri_in))]
+    fn read(alloc: Global, v: &Value, at: &Spot) -> Result<AuthService, DocError> {
+        at.only_fields(alloc, v, &[CLUSTER, TIMEOUT, URI])?;
+        let cluster = required_written::<AnyText>(alloc, v, CLUSTER, at)?;
+        fixed_field(alloc, v, TIMEOUT, ANSWER_TIME, at)?;
+        let uri = required_written::<AnyText>(alloc, v, URI, at)?;
+        Ok(AuthService::Http { cluster, uri })
+    }
+}

@@ -95,7 +95,8 @@ fn put<'a>(kinds: &mut BTreeSet<(u32, &'a str)>, code: u32, name: &'a str) -> Re
 fn code_of(matching: &ChainMatch) -> u32
     ensures { result ≡ targets.code_of matching.now }
 {
-    port_code(matching.port) * 6 + (transport_code(matching.transport) * 2 + names_code(&matching.alpn))
+    port_code(matching.port) * 6
+        + (transport_code(matching.transport) * 2 + names_code(&matching.alpn))
 }
 
 fn port_code(port: Option<u16>) -> u32

@@ -1,8 +1,11 @@
 mod Chosen
+mod Duplicates
 mod Endings
 mod Entries
 mod FewChains
 mod HeadersFirst
+mod KindSets
+mod LookedUp
 mod NamedOnto
 mod Options
 mod Rising

@@ -33,11 +33,7 @@ pub(crate) fn read_http_authz(alloc: Global, v: &Value, at: &Spot) -> Result<Ext
 }
 
 /// The filter of TCP chains.
-pub(crate) fn read_network_authz(
-    alloc: Global,
-    v: &Value,
-    at: &Spot,
-) -> Result<ExtAuthz, DocError>
+pub(crate) fn read_network_authz(alloc: Global, v: &Value, at: &Spot) -> Result<ExtAuthz, DocError>
     ensures { Reads result (form.network_authz_faults (view v.now) at.now) (form.authz_in (view v.now)) }
 {
     named::<NetworkConfig>(alloc, v, NETWORK_AUTHZ_NAME, at)
@@ -139,9 +135,10 @@ fn enabled_field(
     at: &Spot,
 ) -> Result<(Text, StringMatcher), DocError>
     ensures { Reads result
-        (fields.required_written keys.FILTER_ENABLED_METADATA.now (form.enabled_faults rbac_name.now) (view v.now) at.now)
-        (fields.required_written_in keys.FILTER_ENABLED_METADATA.now form.enabled_key_in (view v.now),
-        fields.required_written_in keys.FILTER_ENABLED_METADATA.now form.enabled_in (view v.now)) }
+        (fields.required_written keys.FILTER_ENABLED_METADATA.now (form.enabled_faults rbac_name.now) (view v.now) at.now) (
+          fields.required_written_in keys.FILTER_ENABLED_METADATA.now form.enabled_key_in (view v.now),
+          fields.required_written_in keys.FILTER_ENABLED_METADATA.now form.enabled_in (view v.now),
+        ) }
 {
     match written(v, FILTER_ENABLED_METADATA) {
         Some(found) => {

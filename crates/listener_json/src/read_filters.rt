@@ -86,11 +86,11 @@ fn proxy_last(alloc: Global, items: &[Value], at: &Spot) -> Result<ChainBody, Do
     requires { length items.now < 2 ^ 32 }
     ensures { Reads result
         (hiding
-            (unless (form.are_tcp_filters (items_view items.now)) reasons.BadForm at.now)
-            (small.ending_with form.network_filter_faults form.proxy_faults (array (items_view items.now)) at.now))
+        (unless (form.are_tcp_filters (items_view items.now)) reasons.BadForm at.now)
+        (small.ending_with form.network_filter_faults form.proxy_faults (array (items_view items.now)) at.now))
         (Tcp
-            (small.front_in form.network_filter_in (array (items_view items.now)))
-            (small.last_in form.proxy_in (array (items_view items.now)))) }
+        (small.front_in form.network_filter_in (array (items_view items.now)))
+        (small.last_in form.proxy_in (array (items_view items.now)))) }
 {
     let Some((last, front)) = items.split_last() else {
         return Err(at.refuse(alloc, Reason::BadForm));

@@ -32,12 +32,7 @@ pub(crate) trait FormWith {
     ghost value: { Data → Self.Out };
 
     /// The value of `v`, which stands at `at`, or its first fault.
-    fn read(
-        alloc: Global,
-        given: &Self::Given,
-        v: &Value,
-        at: &Spot,
-    ) -> Result<Self::Out, DocError>
+    fn read(alloc: Global, given: &Self::Given, v: &Value, at: &Spot) -> Result<Self::Out, DocError>
         ensures { Reads result (faults given.now (view v.now) at.now) (value (view v.now)) };
 }
 
@@ -217,12 +212,7 @@ impl<F: FormWith> FormWith for Sole<F> {
     ghost value = { form.sole_in F.value };
 
     #[tactic(auto, unfolding(envoy_types::specs::SmallForms::list_that, envoy_types::specs::SmallForms::short_list_faults, mesh_doc::specs::Kinds::list_faults))]
-    fn read(
-        alloc: Global,
-        given: &F::Given,
-        v: &Value,
-        at: &Spot,
-    ) -> Result<F::Out, DocError> {
+    fn read(alloc: Global, given: &F::Given, v: &Value, at: &Spot) -> Result<F::Out, DocError> {
         let Value::Array(items) = v else {
             return Err(at.refuse(alloc, Reason::WrongType));
         };
@@ -260,9 +250,10 @@ pub(crate) fn ending<F: Form, G: Form>(
 ) -> Result<(List<F::Out>, G::Out), DocError>
     requires { length front.now < 2 ^ 32 }
     ensures { Reads result
-        (form.ending_with F.faults G.faults (array (items_view (front.now ++ last.now ∷ []))) at.now)
-        (form.front_in F.value (array (items_view (front.now ++ last.now ∷ []))),
-        form.last_in G.value (array (items_view (front.now ++ last.now ∷ [])))) }
+        (form.ending_with F.faults G.faults (array (items_view (front.now ++ last.now ∷ []))) at.now) (
+          form.front_in F.value (array (items_view (front.now ++ last.now ∷ []))),
+          form.last_in G.value (array (items_view (front.now ++ last.now ∷ []))),
+        ) }
 {
     let entries = each_with::<Plain<F>>(alloc, &(), front, at)?;
     let end = G::read(alloc, last, &Spot::index(at, front.len() as u32))?;

@@ -1,9 +1,11 @@
 //! Token providers, read from JSON.
-ghost use Rattle.std.specs.Prelude.{◌≡◌, ◌++◌, IfOk};
+ghost use Rattle.std.specs.Prelude.{[]};
 ghost use Rattle.serde_json.specs.View.{view};
-ghost use Rattle.mesh_doc.specs.Faults.{Reads};
-ghost use Rattle.mesh_policy.specs.Jwt.{or_default};
+ghost use Rattle.mesh_doc.specs.Faults.{Reads, ◌⨾◌};
+ghost use Rattle.mesh_doc.specs.Kinds.{text_faults};
+ghost use Rattle.mesh_doc.specs.Lists.{listed_written};
 ghost use Rattle.envoy_types.specs.ProviderForms as form;
+ghost use Rattle.envoy_types.specs.SmallForms.{most_entries};
 ghost use Rattle.envoy_types.specs.declared.keys.TheConstants as keys;
 
 use crate::read_parts::or_second;
@@ -20,7 +22,7 @@ use mesh_doc::{
     required_written,
 };
 use mesh_policy::{JwtRule, Keys, TokenPlace, places_or_default};
-use mesh_text::{List, Memory, Text};
+use mesh_text::{List, Text};
 use serde_json::Value;
 use std::alloc::Global;
 
@@ -34,9 +36,9 @@ impl Entry for Provider {
 
     ghost value = { form.provider_in };
 
-    #[tactic(auto, unfolding(envoy_types::specs::ProviderForms::provider_in))]
+    #[tactic(auto, unfolding(envoy_types::specs::ProviderForms::provider_faults, envoy_types::specs::ProviderForms::provider_in))]
     fn read(alloc: Global, key: &str, v: &Value, at: &Spot) -> Result<JwtProvider, DocError> {
-        let rule = provider_rule(alloc, key, v, at)?;
+        let rule = provider_rule(alloc, v, at)?;
         Ok(JwtProvider {
             name: Text::of(alloc, key)?,
             rule,
@@ -45,14 +47,9 @@ impl Entry for Provider {
 }
 
 // The rule by which the provider judges tokens.
-#[tactic(auto, unfolding(envoy_types::specs::ProviderForms::provider_faults, envoy_types::specs::ProviderForms::provider_rule_in, envoy_types::specs::ProviderForms::keys_in, envoy_types::specs::ProviderForms::places_in, envoy_types::specs::SmallForms::one_of, mesh_doc::specs::Fields::optional_written_in))]
-fn provider_rule(
-    alloc: Global,
-    _name: &str,
-    v: &Value,
-    at: &Spot,
-) -> Result<JwtRule, DocError>
-    ensures { Reads result (form.provider_faults _name.now (view v.now) at.now) (form.provider_rule_in (view v.now)) }
+#[tactic(auto, unfolding(envoy_types::specs::ProviderForms::provider_faults, envoy_types::specs::ProviderForms::provider_rule_in, envoy_types::specs::ProviderForms::keys_in, envoy_types::specs::SmallForms::one_of, mesh_doc::specs::Fields::optional_written_in))]
+fn provider_rule(alloc: Global, v: &Value, at: &Spot) -> Result<JwtRule, DocError>
+    ensures { Reads result (form.provider_faults [] (view v.now) at.now) (form.provider_rule_in (view v.now)) }
 {
     at.only_fields(
         alloc,
@@ -72,9 +69,13 @@ fn provider_rule(
     one_of(alloc, v, &[LOCAL_JWKS, REMOTE_JWKS], at)?;
     let audiences = listed_written::<AnyText>(alloc, v, AUDIENCES, MOST_ENTRIES, at)?;
     let forward = optional_written::<AnyTruth>(alloc, v, FORWARD, at)?;
-    let payload_header = optional_written::<Tested<LowerToken>>(alloc, v, FORWARD_PAYLOAD_HEADER, at)?;
-    let headers = listed_written::<FromHeader>(alloc, v, FROM_HEADERS, MOST_ENTRIES, at)?;
-    let params = listed_written::<FromParam>(alloc, v, FROM_PARAMS, MOST_ENTRIES, at)?;
+    let payload_header = optional_written::<Tested<LowerToken>>(
+        alloc,
+        v,
+        FORWARD_PAYLOAD_HEADER,
+        at,
+    )?;
+    let places = places(alloc, v, at)?;
     let issuer = required_written::<AnyText>(alloc, v, ISSUER, at)?;
     let local = optional_written::<LocalKeys>(alloc, v, LOCAL_JWKS, at)?;
     fixed_field(alloc, v, PAYLOAD_IN_METADATA, PAYLOAD, at)?;
@@ -83,22 +84,24 @@ fn provider_rule(
         issuer,
         audiences,
         keys,
-        places: places_of(alloc, headers, params)?,
+        places,
         forward: forward.unwrap_or(false),
         payload_header,
     })
 }
 
-fn places_of(
-    alloc: Global,
-    headers: List<TokenPlace>,
-    params: List<TokenPlace>,
-) -> Result<List<TokenPlace>, Memory>
-    ensures { IfOk result (λ places. places ≡ or_default (headers ++ params)) }
+// Where its tokens are found: in headers, and then in parameters, or in the default places.
+#[tactic(auto, unfolding(envoy_types::specs::ProviderForms::places_in))]
+fn places(alloc: Global, v: &Value, at: &Spot) -> Result<List<TokenPlace>, DocError>
+    ensures { Reads result
+        ((listed_written keys.FROM_HEADERS.now most_entries form.from_header_faults
+        ⨾ listed_written keys.FROM_PARAMS.now most_entries text_faults) (view v.now) at.now)
+        (form.places_in (view v.now)) }
 {
-    let mut places = headers;
+    let mut places = listed_written::<FromHeader>(alloc, v, FROM_HEADERS, MOST_ENTRIES, at)?;
+    let params = listed_written::<FromParam>(alloc, v, FROM_PARAMS, MOST_ENTRIES, at)?;
     places.append(params)?;
-    places_or_default(alloc, places)
+    Ok(places_or_default(alloc, places)?)
 }
 
 // An entry of `from_headers`, with an empty prefix where none is written.
@@ -127,8 +130,6 @@ impl Form for FromHeader {
 struct FromParam;
 
 impl Form for FromParam {
-    ghost use Rattle.mesh_doc.specs.Kinds.{text_faults};
-
     type Out = TokenPlace;
 
     ghost faults = { text_faults };

@@ -15,9 +15,7 @@ use envoy_types::{
     PrincipalLeaf, Rbac, RbacAction, RbacPolicy, RbacRules,
 };
 use leaf_json::{TreeListForm, fixed_field, named};
-use mesh_doc::{
-    AnyText, DocError, Entry, Form, Reason, Spot, optional_written, required_written,
-};
+use mesh_doc::{AnyText, DocError, Entry, Form, Reason, Spot, optional_written, required_written};
 use mesh_text::Text;
 use serde_json::Value;
 use std::alloc::Global;
@@ -163,7 +161,12 @@ impl Entry for Policy {
     #[tactic(auto, unfolding(envoy_types::specs::RbacForms::policy_faults, envoy_types::specs::RbacForms::policy_in))]
     fn read(alloc: Global, key: &str, v: &Value, at: &Spot) -> Result<RbacPolicy, DocError> {
         at.only_fields(alloc, v, &[PERMISSIONS, PRINCIPALS])?;
-        let permissions = required_written::<TreeListForm<PermissionLeaf>>(alloc, v, PERMISSIONS, at)?;
+        let permissions = required_written::<TreeListForm<PermissionLeaf>>(
+            alloc,
+            v,
+            PERMISSIONS,
+            at,
+        )?;
         let principals = required_written::<TreeListForm<PrincipalLeaf>>(alloc, v, PRINCIPALS, at)?;
         Ok(RbacPolicy {
             name: Text::of(alloc, key)?,

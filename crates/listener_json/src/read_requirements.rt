@@ -205,7 +205,7 @@ fn each_requirement(
     requires { length items.now < 2 ^ 32 }
     ensures { Reads result
         (each_in_turn {S = ℕ} (λ left. form.requirement_entry_faults (form.provider_names given.now) (left == 0)) (λ left _. left - 1)
-            (length items.now - 1) 0 (items_view items.now) at.now)
+        (length items.now - 1) 0 (items_view items.now) at.now)
         (each_in form.requirement_entry_in (items_view items.now)) }
 {
     let mut all = List::with_room(alloc, items.len())?;

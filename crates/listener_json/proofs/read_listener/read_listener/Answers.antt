@@ -6,4 +6,9 @@ use Rattle.listener_json.proofs.read_listener.read_listener.Goals as goal
 
 pub distinct-requires : goal.distinct-requires
 distinct-requires c =
-    omega (arith, few-chains (view c.args.v.now) c.args.at.now c.in_ok-chains.ensures.0, ap length c.in_ok-chains.ensures.1, ap length c.deref.ensures)
+    omega (
+      arith,
+      few-chains (view c.args.v.now) c.args.at.now c.in_ok-chains.ensures.0,
+      ap length c.in_ok-chains.ensures.1,
+      ap length c.deref.ensures,
+    )

@@ -11,9 +11,9 @@ abbrev pub invariant-loop-i : goal.invariant-loop-i
 invariant-loop-i l = record {
   faults :
       first (each_in_turn {S = ℕ} (λ left. requirement_entry_faults (provider_names l.given) (left == 0)) (λ left _. left - 1)
-          (length l.items - 1) 0 (items_view l.items) l.at)
+      (length l.items - 1) 0 (items_view l.items) l.at)
       ≡ first (each_in_turn {S = ℕ} (λ left. requirement_entry_faults (provider_names l.given) (left == 0)) (λ left _. left - 1)
-          (length l.items - 1 - l.i) l.i (items_view (drop l.i l.items)) l.at);
+      (length l.items - 1 - l.i) l.i (items_view (drop l.i l.items)) l.at);
   value :
       each_in requirement_entry_in (items_view l.items)
       ≡ l.all ++ each_in requirement_entry_in (items_view (drop l.i l.items));

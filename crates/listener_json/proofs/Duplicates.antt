@@ -1,8 +1,7 @@
 -- The chains of a listener, one by one: each clashes with an earlier one, or is passed.
-use Rattle.std.proofs.Common.{◌≡◌, ℕ, ◌+◌, ◌<◌, Bool, true, false, not, List, [], ◌∷◌, ◌++◌, length, take, drop, get_or, Some, refl, sym, ap, ◌∙◌}
+use Rattle.std.proofs.Common.{◌≡◌, ℕ, ◌+◌, ◌<◌, true, false, not, List, [], ◌∷◌, ◌++◌, length, take, drop, get_or, refl, sym, ap, ◌∙◌}
 use Rattle.std.proofs.lemmas.List.{drop_more, take_more}
 use Rattle.std.specs.BTreeSet.{BTreeSet}
-use Rattle.std.specs.List.{list_any}
 use Rattle.mesh_doc.specs.Faults.{Faults, Refuses, fault, first, joined, unless}
 use Rattle.mesh_doc.specs.Places.{Steps, at_index}
 use Rattle.mesh_doc.specs.declared.fault.DocError.{DocError}

@@ -1,5 +1,5 @@
 -- The members of a map stand in byte order of their keys, so that what they mean does too.
-use Rattle.std.proofs.Common.{◌≡◌, ℕ, true, List, [], ◌∷◌, ◌&&◌, Less, String, Global, string_bytes, string_cmp, refl, ap₂, ◌∙◌, IsTrue}
+use Rattle.std.proofs.Common.{◌≡◌, ℕ, true, List, [], ◌∷◌, Less, String, Global, string_bytes, string_cmp, refl, IsTrue}
 use Rattle.std.specs.List.{AllByRecursion, list_all}
 use Rattle.std.specs.List.Sorted.{IsStrictlySortedBy}
 use Rattle.std.specs.Map.{keys_of}
@@ -8,7 +8,7 @@ use Rattle.serde_json.specs.View.{members_view}
 use Rattle.serde_json.specs.declared.value.Value.{Value}
 use Rattle.mesh_doc.proofs.Unique.{unique_besides-sorted}
 use Rattle.mesh_doc.specs.Fields.{required_written_in}
-use Rattle.mesh_doc.specs.Maps.{each_member_in, map_in, unique_members}
+use Rattle.mesh_doc.specs.Maps.{each_member_in, map_in}
 use Rattle.envoy_types.specs.Order.{is_below, names_rise}
 use Rattle.listener_json.specs.Keys.{are_rising, keys_in, keys_of_members}
 

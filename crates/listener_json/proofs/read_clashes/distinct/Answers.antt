@@ -2,7 +2,7 @@
 use Rattle.std.proofs.Common.{◌≡◌, true, false, take, refl, sym, ap, ◌∙◌}
 use Rattle.mesh_doc.specs.Faults.{fault, first}
 use Rattle.mesh_doc.specs.declared.reason.Reason.TheVariants.{DuplicateMatch}
-use Rattle.envoy_types.specs.ChainForms.{clashes_with_one, duplicates}
+use Rattle.envoy_types.specs.ChainForms.{clashes_with_one}
 use Rattle.listener_json.proofs.Duplicates.{clashing, nothing, passing, same-refusal}
 use Rattle.listener_json.proofs.KindSets.{one-chain-more, taken}
 use Rattle.listener_json.proofs.read_clashes.distinct.Goals as goal

@@ -1,5 +1,5 @@
 -- An entry without a provider.
-use Rattle.std.proofs.Common.{◌≡◌, ◌||◌, ◌++◌, Bool, true, List, [], ◌∷◌, Option, None, is_none, refl, sym, append-nil, ◌∙◌}
+use Rattle.std.proofs.Common.{◌≡◌, ◌++◌, true, List, [], ◌∷◌, Option, None, is_none, sym, append-nil, ◌∙◌}
 use Rattle.std.specs.List.{filter_map, list_any}
 use Rattle.std.proofs.lemmas.List.Elements.{filter_map-append}
 use Rattle.std.proofs.lemmas.List.Folds.{list_any-append}

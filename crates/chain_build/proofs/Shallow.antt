@@ -64,34 +64,34 @@ ports-low : (n : ℕ) (ports : List ℕ) → all_low permission_form (suc n) (ma
 ports-low n [] = refl
 ports-low n (port ∷ ports) = and_from _ _ (port-low n port) (ports-low n ports)
 
-operation-low : (operation : OperationSpec) → low permission_form 111 (operation_tcp operation) ≡ true
+operation-low : (operation : OperationSpec) → low permission_form 110 (operation_tcp operation) ≡ true
 unfolding operation_tcp
 operation-low operation =
-    low-all_of permission_form 108 _
-    (low-field permission_form 104 _ _ (ports-low 103 operation.ports) (ports-low 103 operation.not_ports))
+    low-all_of permission_form 107 _
+    (low-field permission_form 103 _ _ (ports-low 102 operation.ports) (ports-low 102 operation.not_ports))
 
-operations-low : (operations : List OperationSpec) → all_low permission_form 111 (map operation_tcp operations) ≡ true
+operations-low : (operations : List OperationSpec) → all_low permission_form 110 (map operation_tcp operations) ≡ true
 operations-low [] = refl
 operations-low (operation ∷ operations) = and_from _ _ (operation-low operation) (operations-low operations)
 
-permission-low : (rule : Rule) → low permission_form 117 (permission_tcp rule) ≡ true
+permission-low : (rule : Rule) → low permission_form 116 (permission_tcp rule) ≡ true
 unfolding permission_tcp
-permission-low rule = low-all_of permission_form 114 _ (low-if_or permission_form 111 _ (operations-low rule.operations))
+permission-low rule = low-all_of permission_form 113 _ (low-if_or permission_form 110 _ (operations-low rule.operations))
 
 -- ---- policies
 
 policy-small : (policy : AuthorizationPolicy) (index : ℕ) (rule : Rule)
-    → is_small 119 (policy_written (rule_policy_tcp policy (index, rule))) ≡ true
+    → is_small 118 (policy_written (rule_policy_tcp policy (index, rule))) ≡ true
 unfolding policy_written rule_policy_tcp
 policy-small policy index rule =
     let permissions = list_written (tree_written permission_form) (permission_tcp rule ∷ []) in
     let principals = list_written (tree_written principal_form) (anyone ∷ []) in
-    object-small 118 (field PERMISSIONS.now permissions ∷ field PRINCIPALS.now principals ∷ [])
-    (and_from _ _ (list-small (tree_written permission_form) 117 (permission_tcp rule ∷ []) (and_from _ _ (permission-low rule) refl))
-    (and_from _ _ (list-small (tree_written principal_form) 117 (anyone ∷ []) (and_from _ _ (low-any principal_form 116) refl)) refl))
+    object-small 117 (field PERMISSIONS.now permissions ∷ field PRINCIPALS.now principals ∷ [])
+    (and_from _ _ (list-small (tree_written permission_form) 116 (permission_tcp rule ∷ []) (and_from _ _ (permission-low rule) refl))
+    (and_from _ _ (list-small (tree_written principal_form) 116 (anyone ∷ []) (and_from _ _ (low-any principal_form 115) refl)) refl))
 
 abbrev policies_small : List RbacPolicy → Bool
-policies_small policies = each_small policy_written 119 policies
+policies_small policies = each_small policy_written 118 policies
 
 rules-small : (policy : AuthorizationPolicy) (index : ℕ) (rules : List Rule)
     → policies_small (map (rule_policy_tcp policy) (enumerate_from index rules)) ≡ true
@@ -101,35 +101,35 @@ rules-small policy index (rule ∷ rules) = and_from _ _ (policy-small policy in
 each-policy : (policies : List AuthorizationPolicy) → policies_small (flat_map rule_policies_tcp policies) ≡ true
 each-policy [] = refl
 each-policy (policy ∷ policies) =
-    list_all-append (λ made. is_small 119 (policy_written made)) (rule_policies_tcp policy) (flat_map rule_policies_tcp policies)
+    list_all-append (λ made. is_small 118 (policy_written made)) (rule_policies_tcp policy) (flat_map rule_policies_tcp policies)
     ∙ and_from _ _ (rules-small policy 0 policy.rules) (each-policy policies)
 
 policies-small : (policies : List AuthorizationPolicy) → policies_small (policies_tcp policies) ≡ true
 unfolding policies_tcp
 policies-small policies =
-    all-in_order name_before (λ made. is_small 119 (policy_written made)) (flat_map rule_policies_tcp policies) ∙ each-policy policies
+    all-in_order name_before (λ made. is_small 118 (policy_written made)) (flat_map rule_policies_tcp policies) ∙ each-policy policies
 
 -- ---- filters
 
 rules-of : (action : Action) (policies : List AuthorizationPolicy)
-    → is_small 121 (rules_written (record { action = rbac_action action; policies = policies_tcp policies })) ≡ true
+    → is_small 120 (rules_written (record { action = rbac_action action; policies = policies_tcp policies })) ≡ true
 unfolding rules_written
 rules-of action policies =
     let made = map_written (λ (policy : RbacPolicy). policy.name) policy_written (policies_tcp policies) in
-    object-small 120 (field ACTION.now (string (action_word (rbac_action action))) ∷ field POLICIES.now made ∷ [])
+    object-small 119 (field ACTION.now (string (action_word (rbac_action action))) ∷ field POLICIES.now made ∷ [])
     (and_from _ _
-    (map-small policy_written (λ (policy : RbacPolicy). policy.name) 119 (policies_tcp policies) (policies-small policies)) refl)
+    (map-small policy_written (λ (policy : RbacPolicy). policy.name) 118 (policies_tcp policies) (policies-small policies)) refl)
 
 rbac-small : (action : Action) (policies : List AuthorizationPolicy)
-    → is_small 123 (network_filter_written (filter.Rbac (tcp_rbac action policies))) ≡ true
+    → is_small 122 (network_filter_written (filter.Rbac (tcp_rbac action policies))) ≡ true
 unfolding network_filter_written network_rbac_written tcp_rbac
 rbac-small action policies =
     let fields = rbac_fields (tcp_rbac action policies) ++ field STAT_PREFIX.now (string TCP_PREFIX.now) ∷ [] in
-    named-small 122 NETWORK_RBAC_NAME.now (config_written NETWORK_RBAC_TYPE.now fields)
-    (config-small 121 NETWORK_RBAC_TYPE.now fields (and_from _ _ (rules-of action policies) refl))
+    named-small 121 NETWORK_RBAC_NAME.now (config_written NETWORK_RBAC_TYPE.now fields)
+    (config-small 120 NETWORK_RBAC_TYPE.now fields (and_from _ _ (rules-of action policies) refl))
 
 abbrev filters_small : List NetworkFilter → Bool
-filters_small filters = each_small network_filter_written 123 filters
+filters_small filters = each_small network_filter_written 122 filters
 
 filters-small : (action : Action) (policies : List AuthorizationPolicy) → filters_small (filters_for action policies) ≡ true
 filters-small action [] = refl
@@ -139,7 +139,7 @@ filters-small action (policy ∷ policies) =
 all-filters : (w : Workload) → filters_small (tcp_filters w) ≡ true
 unfolding tcp_filters
 all-filters w =
-    let test : NetworkFilter → Bool = λ f. is_small 123 (network_filter_written f) in
+    let test : NetworkFilter → Bool = λ f. is_small 122 (network_filter_written f) in
     list_all-append test (filters_for Audit w.audit ++ filters_for Deny w.deny) (filters_for Allow w.allow)
     ∙ and_from _ _
     (list_all-append test (filters_for Audit w.audit) (filters_for Deny w.deny)
@@ -148,60 +148,60 @@ all-filters w =
 
 -- ---- chains
 
-proxy-small : (cluster : List ℕ) → is_small 123 (proxy_written cluster) ≡ true
+proxy-small : (cluster : List ℕ) → is_small 122 (proxy_written cluster) ≡ true
 unfolding proxy_written
 proxy-small cluster =
     let fields = field CLUSTER.now (string cluster) ∷ field STAT_PREFIX.now (string cluster) ∷ [] in
-    named-small 122 TCP_PROXY_NAME.now (config_written TCP_PROXY_TYPE.now fields) (config-small 121 TCP_PROXY_TYPE.now fields refl)
+    named-small 121 TCP_PROXY_NAME.now (config_written TCP_PROXY_TYPE.now fields) (config-small 120 TCP_PROXY_TYPE.now fields refl)
 
 body-small : (filters : List NetworkFilter) (cluster : List ℕ) → filters_small filters ≡ true
-    → is_small 124 (body_written (Tcp filters cluster)) ≡ true
+    → is_small 123 (body_written (Tcp filters cluster)) ≡ true
 unfolding body_written
 body-small [] cluster h = and_from _ _ (proxy-small cluster) refl
 body-small (f ∷ filters) cluster h =
-    let both = and_parts (is_small 123 (network_filter_written f)) (filters_small filters) h in
+    let both = and_parts (is_small 122 (network_filter_written f)) (filters_small filters) h in
     and_from _ _ both.0 (body-small filters cluster both.1)
 
-socket-small : is_small 124 socket_written ≡ true
+socket-small : is_small 123 socket_written ≡ true
 unfolding socket_written certificates_written named_written
 socket-small = refl
 
-names-small : is_small 123 (list_written string mesh_names) ≡ true
+names-small : is_small 122 (list_written string mesh_names) ≡ true
 unfolding list_written
 names-small = refl
 
 -- the names of a chain's match are those of the mesh or none
 match-small : (port : Option ℕ) (transport : Option Transport) (names : List (List ℕ))
-    → value_small 123 (list_field APPLICATION_PROTOCOLS.now string names).1 ≡ true
-    → is_small 124 (match_written (record { port = port; transport = transport; alpn = names })) ≡ true
+    → value_small 122 (list_field APPLICATION_PROTOCOLS.now string names).1 ≡ true
+    → is_small 123 (match_written (record { port = port; transport = transport; alpn = names })) ≡ true
 unfolding match_written
 match-small port transport names h =
-    object-small 123
+    object-small 122
     (list_field APPLICATION_PROTOCOLS.now string names
     ∷ optional_field DESTINATION_PORT.now number_written port
     ∷ optional_field TRANSPORT_PROTOCOL.now transport_written transport
     ∷ [])
     (and_from _ _ h (and_from _ _ (port-value port) (and_from _ _ (transport-value transport) refl))) where
-      port-value : (port : Option ℕ) → value_small 123 (option_map number_written port) ≡ true
+      port-value : (port : Option ℕ) → value_small 122 (option_map number_written port) ≡ true
       port-value None = refl
       port-value (Some n) = refl
 
-      transport-value : (transport : Option Transport) → value_small 123 (option_map transport_written transport) ≡ true
+      transport-value : (transport : Option Transport) → value_small 122 (option_map transport_written transport) ≡ true
       transport-value None = refl
       transport-value (Some t) = refl
 
-socket-value : (mutual_tls : Bool) → value_small 124 (socket_field mutual_tls).1 ≡ true
+socket-value : (mutual_tls : Bool) → value_small 123 (socket_field mutual_tls).1 ≡ true
 socket-value true = socket-small
 socket-value false = refl
 
 chain-small : (port : Option ℕ) (ending : List ℕ) (transport : Option Transport) (names : List (List ℕ)) (mutual_tls : Bool)
     (filters : List NetworkFilter) → filters_small filters ≡ true
-    → value_small 123 (list_field APPLICATION_PROTOCOLS.now string names).1 ≡ true
-    → is_small 125 (chain_written (tcp_chain port ending transport names mutual_tls filters)) ≡ true
+    → value_small 122 (list_field APPLICATION_PROTOCOLS.now string names).1 ≡ true
+    → is_small 124 (chain_written (tcp_chain port ending transport names mutual_tls filters)) ≡ true
 unfolding chain_written tcp_chain
 chain-small port ending transport names mutual_tls filters h k =
     let chain = tcp_chain port ending transport names mutual_tls filters in
-    object-small 124
+    object-small 123
     (field FILTER_CHAIN_MATCH.now (match_written chain.matching)
     ∷ field FILTERS.now (body_written chain.body)
     ∷ field NAME.now (string chain.name)
@@ -211,7 +211,7 @@ chain-small port ending transport names mutual_tls filters h k =
     (and_from _ _ (body-small filters (cluster_of port) h) (and_from _ _ (socket-value mutual_tls) refl)))
 
 abbrev chains_small : List FilterChain → Bool
-chains_small chains = each_small chain_written 125 chains
+chains_small chains = each_small chain_written 124 chains
 
 mode-small : (mode : Mode) (port : Option ℕ) (filters : List NetworkFilter) → filters_small filters ≡ true
     → chains_small (tcp_chains mode port filters) ≡ true
@@ -224,7 +224,7 @@ mode-small Permissive port filters h =
 mode-small Disable port filters h = and_from _ _ (chain-small port (codes "-plain") None [] false filters h refl) refl
 
 abbrev chain_test : FilterChain → Bool
-chain_test chain = is_small 125 (chain_written chain)
+chain_test chain = is_small 124 (chain_written chain)
 
 listed-small : (ports : List ListedPort) (filters : List NetworkFilter) → filters_small filters ≡ true
     → chains_small (flat_map (chains_of_port filters) ports) ≡ true
@@ -242,19 +242,19 @@ chains-small w filters h =
 
 -- ---- the listener
 
-address-small : (address : List ℕ) (port : ℕ) → is_small 126 (address_written address port) ≡ true
+address-small : (address : List ℕ) (port : ℕ) → is_small 125 (address_written address port) ≡ true
 unfolding address_written
 address-small address port = refl
 
-inspectors-small : is_small 126 listener_filters_written ≡ true
+inspectors-small : is_small 125 listener_filters_written ≡ true
 unfolding listener_filters_written named_written
 inspectors-small = refl
 
-pub built-small : (w : Workload) → is_small 127 (listener_written (built w)) ≡ true
+pub built-small : (w : Workload) → is_small 126 (listener_written (built w)) ≡ true
 unfolding listener_written built
 built-small w =
     let listener = built w in
-    object-small 126
+    object-small 125
     (field ADDRESS.now (address_written listener.address listener.port)
     ∷ field FILTER_CHAINS.now (list_written chain_written listener.chains)
     ∷ field LISTENER_FILTERS.now listener_filters_written
@@ -262,20 +262,20 @@ built-small w =
     ∷ field TRAFFIC_DIRECTION.now (string INBOUND_DIRECTION.now)
     ∷ [])
     (and_from _ _ (address-small listener.address listener.port)
-    (and_from _ _ (list-small chain_written 125 listener.chains (chains-small w (tcp_filters w) (all-filters w)))
+    (and_from _ _ (list-small chain_written 124 listener.chains (chains-small w (tcp_filters w) (all-filters w)))
     (and_from _ _ inspectors-small refl)))
 
--- It is nested at most 127 deep, as a reader takes it, whatever the workload holds.
-pub shallow : (w : Workload) → depth (listener_written (built w)) ≤ 127
-shallow w = small-depth 127 (listener_written (built w)) (built-small w)
+-- It is nested at most 126 deep, as a reader takes it, whatever the workload holds.
+pub shallow : (w : Workload) → depth (listener_written (built w)) ≤ 126
+shallow w = small-depth 126 (listener_written (built w)) (built-small w)
 
 pub whole : (w : Workload) → has_float (listener_written (built w)) ≡ false
-whole w = small-whole 127 (listener_written (built w)) (built-small w)
+whole w = small-whole 126 (listener_written (built w)) (built-small w)
 
 -- The same of the answer of a build.
 pub shallow-answer : (w : Workload) (r : Result Listener Memory) → IfOk r (λ listener. listener ≡ built w)
-    → IfOk r (λ listener. depth (listener_written listener) ≤ 127)
-shallow-answer w (Ok listener) e = subst (λ l. depth (listener_written l) ≤ 127) (sym e) (shallow w)
+    → IfOk r (λ listener. depth (listener_written listener) ≤ 126)
+shallow-answer w (Ok listener) e = subst (λ l. depth (listener_written l) ≤ 126) (sym e) (shallow w)
 shallow-answer w (Err e) shape = tt
 
 pub whole-answer : (w : Workload) (r : Result Listener Memory) → IfOk r (λ listener. listener ≡ built w)

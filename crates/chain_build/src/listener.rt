@@ -19,13 +19,13 @@ use mesh_text::{List, Memory, Text};
 use std::alloc::Global;
 
 /// The listener of a workload. It has the chains of each listed port, ascending, by the port's mode, and then those of all
-/// other ports, which name none. It can be written as JSON, which is nested at most 127 deep, and gives each connection the
+/// other ports, which name none. It can be written as JSON, which is nested at most 126 deep, and gives each connection the
 /// verdict of the policies.
 pub fn build(alloc: Global, w: &Workload) -> Result<Listener, Memory>
     requires { IsBuildable w.now }
     ensures shape { IfOk result (λ listener. listener ≡ meaning.built w.now) }
     ensures printable { IfOk result (λ listener. IsTrue (is_printable listener)) }
-    ensures shallow { IfOk result (λ listener. depth (listener_written listener) ≤ 127) }
+    ensures shallow { IfOk result (λ listener. depth (listener_written listener) ≤ 126) }
     ensures no_float { IfOk result (λ listener. has_float (listener_written listener) ≡ false) }
     ensures verdicts { IfOk result (λ listener. (case : Case) → envoy_verdict listener case ≡ verdict_of w.now case) }
 {

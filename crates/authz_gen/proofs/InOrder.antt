@@ -1,5 +1,5 @@
 -- What is put in order has the same entries, and rises where no two names are the same.
-use Rattle.std.proofs.Common.{◌≡◌, ℕ, Bool, true, false, not, ◌&&◌, ◌||◌, List, [], ◌∷◌, ◌++◌, refl, sym, ◌∙◌, ap, append_assoc, cond}
+use Rattle.std.proofs.Common.{◌≡◌, ℕ, Bool, true, false, not, ◌&&◌, ◌||◌, List, [], ◌∷◌, refl, sym, ◌∙◌, ap, cond}
 use Rattle.std.proofs.lemmas.Bool.{and_from, and_parts}
 use Rattle.std.proofs.lemmas.Cmp.{nat_list_cmp_total}
 use Rattle.std.proofs.lemmas.Map.Text.{is_eq-slice_cmp}
@@ -37,7 +37,7 @@ module _ {A : Type 0} (before : A → A → Bool) (test : A → Bool) where
   any-in_order [] = refl
   any-in_order (x ∷ xs) = any-put x (in_order before xs) ∙ ap (λ b. test x || b) (any-in_order xs)
 
-  all-put : (x : A) (ys : List A) → list_all test (put before x ys) ≡ (test x && list_all test ys)
+  pub all-put : (x : A) (ys : List A) → list_all test (put before x ys) ≡ (test x && list_all test ys)
   all-put x [] = refl
   all-put x (y ∷ ys) = at (before y x) (all-put x ys) where
     at : (b : Bool) → list_all test (put before x ys) ≡ (test x && list_all test ys)
@@ -49,31 +49,6 @@ module _ {A : Type 0} (before : A → A → Bool) (test : A → Bool) where
   pub all-in_order : (xs : List A) → list_all test (in_order before xs) ≡ list_all test xs
   all-in_order [] = refl
   all-in_order (x ∷ xs) = all-put x (in_order before xs) ∙ ap (λ b. test x && b) (all-in_order xs)
-
--- ---- one after another
-
-module _ {A : Type 0} (before : A → A → Bool) where
-  -- entries put in their places among others, from the last one on
-  abbrev pub onto : List A → List A → List A
-  onto [] found = found
-  onto (x ∷ xs) found = put before x (onto xs found)
-
-  pub onto-none : (xs : List A) → onto xs [] ≡ in_order before xs
-  onto-none [] = refl
-  onto-none (x ∷ xs) = ap (put before x) (onto-none xs)
-
-  pub onto-last : (xs : List A) (x : A) (found : List A) → onto (xs ++ x ∷ []) found ≡ onto xs (put before x found)
-  onto-last [] x found = refl
-  onto-last (y ∷ xs) x found = ap (put before y) (onto-last xs x found)
-
-  -- one that comes before is passed
-  pub put-later : (x y : A) (xs front : List A) → before y x ≡ true
-      → front ++ put before x (y ∷ xs) ≡ (front ++ y ∷ []) ++ put before x xs
-  put-later x y xs front h = rw h (sym (append_assoc front (y ∷ []) (put before x xs)))
-
-  -- and the place is in front of one that doesn't
-  pub put-here : (x y : A) (xs : List A) → before y x ≡ false → put before x (y ∷ xs) ≡ x ∷ y ∷ xs
-  put-here x y xs h = rw h refl
 
 -- ---- names in byte order
 

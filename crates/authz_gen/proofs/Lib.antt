@@ -5,6 +5,7 @@ pub mod Made
 pub mod Names
 pub mod Printable
 pub mod RuleHolds
+pub mod Stable
 pub mod TreeHolds
 pub mod TreePrintable
 pub mod Widths

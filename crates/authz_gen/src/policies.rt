@@ -55,7 +55,7 @@ fn policies_tcp(alloc: Global, policies: &[AuthorizationPolicy]) -> Result<List<
     ensures { IfOk result (λ ps. ps ≡ meaning.policies_tcp policies.now) }
 {
     let found = rule_policies(alloc, policies)?;
-    in_order(alloc, found)
+    in_order(found)
 }
 
 // One policy for each rule, in the order in which they stand.

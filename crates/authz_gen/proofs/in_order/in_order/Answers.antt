@@ -1,19 +1,16 @@
--- The last policy that is left is put in its place.
-use Rattle.std.proofs.Common.{◌∙◌, ap, sym}
+-- What the stable sort makes of the policies is the policies in order.
+use Rattle.std.proofs.Common.{◌∙◌, ap, rules}
+use Rattle.std.proofs.lemmas.Cmp.{nat_list_cmp_total}
+use Rattle.std.proofs.lemmas.List.Sorted.{answers_always, ranks_by}
+use Rattle.envoy_types.specs.declared.access.RbacPolicy.{RbacPolicy}
 use Rattle.mesh_policy.specs.Lists.{in_order}
 use Rattle.authz_gen.specs.Policies.{name_before}
-use Rattle.authz_gen.proofs.InOrder.{onto, onto-last, onto-none}
+use Rattle.authz_gen.proofs.Stable.{sorted-in_order}
 use Rattle.authz_gen.proofs.in_order.in_order.Goals as goal
 
-pub loop-policy-init : goal.loop-policy-init
-loop-policy-init c =
-    ap (onto name_before c.into_vec-rest.result.items) c.in_ok-found.ensures.items
-    ∙ onto-none name_before c.into_vec-rest.result.items
-    ∙ ap (in_order name_before) c.into_vec-rest.ensures
-
-pub loop-policy-preserved : goal.loop-policy-preserved
-loop-policy-preserved c =
-    ap (onto name_before c.pop.new.self.items) c.in_ok-put.ensures
-    ∙ sym (onto-last name_before c.pop.new.self.items c.in-Some.policy c.loop-policy.found.items)
-    ∙ ap (λ rest. onto name_before rest c.loop-policy.found.items) (sym c.in-Some.ensures.items)
-    ∙ c.loop-policy.invariant
+pub returns : goal.returns
+returns c =
+    let ranks = ranks_by nat_list_cmp_total (λ (p : RbacPolicy). p.name) in
+    let sorted = c.in_ok-sort_by.ensures.sorted name_before ranks (answers_always _ _ _ (λ f a r g h. search rules)) in
+    let stable = c.in_ok-sort_by.ensures.stable name_before ranks (answers_always _ _ _ (λ f a r g h. search rules)) in
+    c.from_vec.ensures ∙ sorted-in_order name_before ranks _ _ sorted stable ∙ ap (in_order name_before) c.into_vec-found.ensures

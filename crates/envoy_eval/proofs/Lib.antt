@@ -1,0 +1,4 @@
+pub mod Places
+pub mod Agreed
+pub mod Held
+pub mod Left

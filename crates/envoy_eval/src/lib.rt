@@ -1,0 +1,11 @@
+//! The meaning of a listener, computed: which filter chain a case goes to, which policies of the filters hold, and the
+//! verdict. Every listener and case has an answer, and none takes memory.
+#![tactic(auto)]
+
+mod access;
+mod authz;
+mod chains;
+mod tokens;
+
+pub use access::effective;
+pub use chains::choose;

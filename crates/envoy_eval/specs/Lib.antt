@@ -1,2 +1,5 @@
 pub mod Chains
+pub mod Filters
+pub mod Hits
+pub mod Steps
 pub mod Tokens

@@ -5,7 +5,11 @@
 mod access;
 mod authz;
 mod chains;
+mod filters;
+mod hits;
+mod steps;
 mod tokens;
 
 pub use access::effective;
 pub use chains::choose;
+pub use hits::{Hit, Hits};

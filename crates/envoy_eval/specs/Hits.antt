@@ -1,0 +1,63 @@
+-- Which policies the rules of filters hit, stage by stage (Envoy reference, "Role Based Access Control (RBAC) Filter": shadow
+-- rules, and the actions ALLOW, DENY and LOG).
+use Rattle.std.specs.Prelude.{ℕ, Bool, List, [], codes, Option, Some, None, if◌then◌else◌}
+use Rattle.std.specs.List.{slice_get}
+use Rattle.std.specs.Option.{option_map, option_or}
+use Rattle.mesh_text.specs.Parts.{is_prefix}
+use Rattle.mesh_policy.specs.Attributes.{Seen}
+use Rattle.mesh_policy.specs.declared.case.Case.{Case}
+use Rattle.envoy_types.specs.Access.{Rules, effective}
+use Rattle.envoy_types.specs.State.{holds_of}
+use Rattle.envoy_types.specs.declared.access.Rbac.{Rbac}
+use Rattle.envoy_types.specs.declared.access.RbacAction.{RbacAction}
+use Rattle.envoy_types.specs.declared.access.RbacAction.TheVariants.{Allow, Deny, Log}
+use Rattle.envoy_eval.specs.declared.hits.Hit.{Hit}
+use Rattle.envoy_eval.specs.declared.hits.Told.{Told}
+
+-- no hit of any stage
+abbrev pub nothing_told : Told
+nothing_told = record { custom = None; audit = None; deny = None; allow = None }
+
+-- of two hits of a stage the first
+abbrev pub first_told : Told → Told → Told
+first_told first later = record {
+  custom = option_or first.custom later.custom;
+  audit = option_or first.audit later.audit;
+  deny = option_or first.deny later.deny;
+  allow = option_or first.allow later.allow;
+}
+
+-- the hit of the policy at a position, in the filter at a place
+abbrev pub hit_at : ℕ → Option ℕ → Option Hit
+hit_at place position = option_map (λ policy. record { filter = place; policy = policy }) position
+
+-- the policy that rules come down to, where there are rules and one holds
+abbrev pub held : Option Rules → Case → Seen → Option ℕ
+held None case seen = None
+held (Some rules) case seen = effective rules case seen
+
+-- Istio gives the policies by which DENY rules send requests to an external authorizer names with this front.
+abbrev pub names_authorizer : Rules → ℕ → Bool
+names_authorizer rules position =
+    holds_of (λ policy. is_prefix (codes "istio-ext-authz-") policy.name) (slice_get rules.policies position)
+
+-- a policy with such a name is no hit of DENY
+abbrev pub own_position : Rules → Option ℕ → Option ℕ
+own_position rules None = None
+own_position rules (Some position) = if names_authorizer rules position then None else Some position
+
+-- the rules' policy that holds is a hit of the stage of their action, beside the hit of the shadow rules
+abbrev pub told_by_action : RbacAction → ℕ → Rules → Option ℕ → Option Hit → Told
+told_by_action Allow place rules position custom = record { custom = custom; audit = None; deny = None; allow = hit_at place position }
+told_by_action Deny place rules position custom =
+    record { custom = custom; audit = None; deny = hit_at place (own_position rules position); allow = None }
+told_by_action Log place rules position custom = record { custom = custom; audit = hit_at place position; deny = None; allow = None }
+
+-- rules that are absent have no hit
+abbrev pub told_by_rules : ℕ → Option Rules → Case → Seen → Option Hit → Told
+told_by_rules place None case seen custom = record { custom = custom; audit = None; deny = None; allow = None }
+told_by_rules place (Some rules) case seen custom = told_by_action rules.action place rules (effective rules case seen) custom
+
+-- the hits of a filter at a place: that of its shadow rules, and that of its rules
+abbrev pub told_by_rbac : ℕ → Case → Rbac → Seen → Told
+told_by_rbac place case rbac seen = told_by_rules place rbac.rules case seen (hit_at place (held rbac.shadow case seen))

@@ -1,4 +1,7 @@
 pub mod Places
+pub mod Runs
 pub mod Agreed
 pub mod Held
+pub mod Keys
 pub mod Left
+pub mod Verdicts

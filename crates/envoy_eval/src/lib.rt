@@ -7,9 +7,13 @@ mod authz;
 mod chains;
 mod filters;
 mod hits;
+mod listener;
+mod names;
+mod run;
 mod steps;
 mod tokens;
 
 pub use access::effective;
 pub use chains::choose;
 pub use hits::{Hit, Hits};
+pub use listener::{judge, trace};

@@ -126,7 +126,13 @@ pub(crate) fn run_rbac(place: usize, rbac: &Rbac, case: &Case, now: Standing) ->
                 allow: None,
             },
         },
-        Some(rules) => run_rules(place, rules, effective(rules, case, &now.state), custom, now),
+        Some(rules) => run_rules(
+            place,
+            rules,
+            effective(rules, case, &now.state),
+            custom,
+            now,
+        ),
     }
 }
 

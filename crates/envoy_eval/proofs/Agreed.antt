@@ -1,5 +1,6 @@
 -- The first name that one of several chains lists, chain by chain.
-use Rattle.std.proofs.Common.{◌≡◌, ℕ, zero, suc, ◌+◌, ◌<◌, ◌≤◌, Bool, true, false, not, ◌||◌, List, [], ◌∷◌, length, take, drop, get_or, find, Option, Some, cond, ap, sym, refl, ◌∙◌, arith}
+use Rattle.std.proofs.Common.{◌≡◌, ℕ, zero, suc, ◌+◌, ◌<◌, ◌≤◌, Bool, true, false, not, ◌||◌, List, [], ◌∷◌, length, take, drop, get_or}
+use Rattle.std.proofs.Common.{find, Option, Some, cond, ap, sym, refl, ◌∙◌, arith}
 use Rattle.std.proofs.lemmas.List.{drop_all, drop_more, length-take-le}
 use Rattle.std.proofs.lemmas.List.Folds.{find_at}
 use Rattle.std.proofs.lemmas.List.Sums.{prefix_len-le-length}
@@ -12,7 +13,8 @@ take-next : {A : Type 0} (n : ℕ) (x : A) (xs : List A) → take (1 + n) (x ∷
 take-next n x xs = ap (λ k. take k (x ∷ xs)) (next n)
 
 -- where a name passes one of two tests: among those in front of the first that passes the one, the other is asked
-cut : {A : Type 0} (p q : A → Bool) (xs : List A) → position_or_len (λ x. p x || q x) xs ≡ position_or_len q (take (position_or_len p xs) xs)
+cut : {A : Type 0} (p q : A → Bool) (xs : List A)
+    → position_or_len (λ x. p x || q x) xs ≡ position_or_len q (take (position_or_len p xs) xs)
 cut p q [] = refl
 cut p q (x ∷ xs) = at (p x) (q x) refl (cut p q xs) where
   at : (b d : Bool) → q x ≡ d → position_or_len (λ x. p x || q x) xs ≡ position_or_len q (take (position_or_len p xs) xs)
@@ -65,7 +67,8 @@ module _ {A C : Type 0} (lists : C → A → Bool) where
   pub all : (chains : List C) (i : ℕ) (names : List A) (first : ℕ) → length chains ≤ i → first ≤ length names
       → agreed chains names ≡ agreed (drop i chains) (take first names) → first ≡ agreed chains names
   all chains i names first done bound h =
-      sym (h ∙ ap (λ cs. agreed cs (take first names)) (drop_all i chains done) ∙ sym (none-passes (take first names)) ∙ length-take-le first names bound)
+      sym (h ∙ ap (λ cs. agreed cs (take first names)) (drop_all i chains done)
+      ∙ sym (none-passes (take first names)) ∙ length-take-le first names bound)
 
 -- the name there
 pub name-at : {A : Type 0} (p : A → Bool) (names : List A) (first : ℕ) (found : Option A) → first ≡ position_or_len p names

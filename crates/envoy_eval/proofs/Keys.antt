@@ -1,5 +1,6 @@
 -- The metadata key of shadow rules, told in two parts, and the name that is told there.
-use Rattle.std.proofs.Common.{◌≡◌, ℕ, Bool, true, false, nat_eq, ◌&&◌, List, [], ◌∷◌, ◌++◌, length, take, drop, find, Option, Some, None, cond, if◌then◌else◌, ap, sym, refl, ◌∙◌, ◌+◌, Bor}
+use Rattle.std.proofs.Common.{◌≡◌, ℕ, Bool, true, false, nat_eq, ◌&&◌, List, [], ◌∷◌, ◌++◌, length, take, drop, find, Option, Some, None}
+use Rattle.std.proofs.Common.{cond, if◌then◌else◌, ap, sym, refl, ◌∙◌, ◌+◌, Bor}
 use Rattle.std.proofs.lemmas.Bool.{cond-false, cond-true, false_from_ne_true}
 use Rattle.std.proofs.lemmas.Bool.Decides.{Decides-eqb}
 use Rattle.std.proofs.lemmas.Slice.Eq.{starts_is}
@@ -56,5 +57,7 @@ behind-is prefix key None h =
     sym (cond-false (starts_with eqb key prefix) (Some (drop (length prefix) key)) None
     (false_from_ne_true _ (λ e. h (drop (length prefix) key) (begins.0 e))))
 behind-is prefix key (Some x) h =
-    let begins : starts_with eqb key prefix ≡ true = (starts_is Decides-eqb key prefix (starts_with eqb key prefix) refl).1 (drop h.0 key) h.1.1 in
-    ap Some (h.2 ∙ ap (λ n. drop n key) h.1.0) ∙ sym (cond-true (starts_with eqb key prefix) (Some (drop (length prefix) key)) None begins)
+    let begins : starts_with eqb key prefix ≡ true =
+    (starts_is Decides-eqb key prefix (starts_with eqb key prefix) refl).1 (drop h.0 key) h.1.1 in
+    ap Some (h.2 ∙ ap (λ n. drop n key) h.1.0)
+    ∙ sym (cond-true (starts_with eqb key prefix) (Some (drop (length prefix) key)) None begins)

@@ -1,5 +1,6 @@
 -- The chain that is chosen is the first that is left by what the chains left have in common.
-use Rattle.std.proofs.Common.{◌≡◌, ℕ, ◌+◌, Bool, true, false, ◌&&◌, ◌||◌, List, [], ◌∷◌, filter, find, Option, Some, None, cond, ap, sym, refl, ◌∙◌}
+use Rattle.std.proofs.Common.{◌≡◌, ℕ, ◌+◌, Bool, true, false, ◌&&◌, ◌||◌, List, [], ◌∷◌, filter, find, Option, Some, None, cond, ap, sym}
+use Rattle.std.proofs.Common.{refl, ◌∙◌}
 use Rattle.std.specs.List.{list_any, position_from, slice_get}
 use Rattle.std.specs.Option.{option_map}
 use Rattle.mesh_policy.specs.declared.case.Case.{Case}
@@ -15,13 +16,16 @@ use Rattle.envoy_eval.specs.Chains.{first_left, has_name, has_port, has_transpor
 abbrev kept : (ChainMatch → Bool) → ℕ → List FilterChain → List Placed
 kept test k chains = filter (λ c. test c.chain.matching) (placed_from k chains)
 
+abbrev placed : ℕ → FilterChain → Placed
+placed k chain = record { position = k; chain = chain }
+
 any-kept : (test names : ChainMatch → Bool) (k : ℕ) (chains : List FilterChain)
     → list_any (λ c. names c.chain.matching) (kept test k chains) ≡ list_any (λ c. test c.matching && names c.matching) chains
 any-kept test names k [] = refl
 any-kept test names k (c ∷ chains) = at (test c.matching) (any-kept test names (k + 1) chains) where
   at : (b : Bool)
       → list_any (λ c. names c.chain.matching) (kept test (k + 1) chains) ≡ list_any (λ c. test c.matching && names c.matching) chains
-      → list_any (λ c. names c.chain.matching) (cond b (record { position = k; chain = c } ∷ kept test (k + 1) chains) (kept test (k + 1) chains))
+      → list_any (λ c. names c.chain.matching) (cond b (placed k c ∷ kept test (k + 1) chains) (kept test (k + 1) chains))
       ≡ ((b && names c.matching) || list_any (λ c. test c.matching && names c.matching) chains)
   at true h = ap (λ b. names c.matching || b) h
   at false h = h
@@ -32,8 +36,8 @@ kept-kept test next k [] = refl
 kept-kept test next k (c ∷ chains) = at (test c.matching) (next c.matching) refl (kept-kept test next (k + 1) chains) where
   at : (b n : Bool) → next c.matching ≡ n
       → filter (λ c. next c.chain.matching) (kept test (k + 1) chains) ≡ kept (λ m. test m && next m) (k + 1) chains
-      → filter (λ c. next c.chain.matching) (cond b (record { position = k; chain = c } ∷ kept test (k + 1) chains) (kept test (k + 1) chains))
-      ≡ cond (b && next c.matching) (record { position = k; chain = c } ∷ kept (λ m. test m && next m) (k + 1) chains)
+      → filter (λ c. next c.chain.matching) (cond b (placed k c ∷ kept test (k + 1) chains) (kept test (k + 1) chains))
+      ≡ cond (b && next c.matching) (placed k c ∷ kept (λ m. test m && next m) (k + 1) chains)
       (kept (λ m. test m && next m) (k + 1) chains)
   at true true e h = rw (e, h) refl
   at true false e h = rw (e, h) refl
@@ -53,7 +57,7 @@ first-kept test k [] = refl
 first-kept test k (c ∷ chains) = at (test c.matching) (first-kept test (k + 1) chains) where
   at : (b : Bool)
       → option_map (λ c. c.position) (slice_get (kept test (k + 1) chains) 0) ≡ position_from (λ c. test c.matching) (k + 1) chains
-      → option_map (λ c. c.position) (slice_get (cond b (record { position = k; chain = c } ∷ kept test (k + 1) chains) (kept test (k + 1) chains)) 0)
+      → option_map (λ c. c.position) (slice_get (cond b (placed k c ∷ kept test (k + 1) chains) (kept test (k + 1) chains)) 0)
       ≡ cond b (Some k) (position_from (λ c. test c.matching) (k + 1) chains)
   at true h = refl
   at false h = h
@@ -107,7 +111,8 @@ name-kept test names chains (Some name) e =
     (found-passes (λ n. list_any (λ c. test c.matching && meaning.lists_name n c.matching) chains) names name e)
 
 names-kept : (test : ChainMatch → Bool) (names : List (List ℕ)) (chains : List FilterChain)
-    → meaning.agreed_name names (kept test 0 chains) ≡ find (λ name. list_any (λ c. test c.matching && meaning.lists_name name c.matching) chains) names
+    → meaning.agreed_name names (kept test 0 chains)
+    ≡ find (λ name. list_any (λ c. test c.matching && meaning.lists_name name c.matching) chains) names
 names-kept test names chains = find-same _ _ (λ name. any-kept test (meaning.lists_name name) 0 chains) names
 
 -- ---- all three

@@ -5,3 +5,4 @@ pub mod Held
 pub mod Keys
 pub mod Left
 pub mod Verdicts
+pub mod WorkedRules

@@ -1,12 +1,14 @@
 -- The run of filters, filter by filter.
-use Rattle.std.proofs.Common.{◌≡◌, ℕ, ◌+◌, ◌<◌, ◌≤◌, Bool, true, false, List, [], ◌∷◌, ◌++◌, length, take, drop, get_or, Option, Some, None, cond, ap, sym, refl, subst, ◌∙◌, arith}
+use Rattle.std.proofs.Common.{◌≡◌, ℕ, ◌+◌, ◌<◌, ◌≤◌, Bool, true, false, List, [], ◌∷◌, ◌++◌, length, take, drop, get_or, Option, Some}
+use Rattle.std.proofs.Common.{None, cond, ap, sym, refl, subst, ◌∙◌, arith}
 use Rattle.std.proofs.lemmas.List.{drop_all, drop_more, take_more}
 use Rattle.std.specs.Option.{option_map, option_or}
 use Rattle.mesh_policy.specs.Attributes.{Seen}
 use Rattle.mesh_policy.specs.declared.case.Case.{Case}
 use Rattle.mesh_policy.specs.declared.token_verdict.ClaimField.{ClaimField}
 use Rattle.envoy_types.specs.Jwt.{Authentication, claims_by, required, requirement_holds}
-use Rattle.envoy_types.specs.Run.{Decision, Names, RunState, Step, goes_on, refuses, run_filters, run_jwt, run_required, then_run, unauthenticated, with_claims}
+use Rattle.envoy_types.specs.Run.{Decision, Names, RunState, Step, goes_on, refuses, run_filters, run_jwt, run_required, then_run}
+use Rattle.envoy_types.specs.Run.{unauthenticated, with_claims}
 use Rattle.envoy_types.specs.State.{seen_of}
 use Rattle.envoy_types.specs.declared.jwt.Requirement.{Requirement}
 use Rattle.envoy_eval.specs.Hits.{first_told, nothing_told}
@@ -88,7 +90,8 @@ told_from c c' a a' d d' l l' e f g h = cc
 
 first-nothing : (told : Told) → first_told told nothing_told ≡ told
 first-nothing told =
-    told_from _ told.custom _ told.audit _ told.deny _ told.allow (or-none told.custom) (or-none told.audit) (or-none told.deny) (or-none told.allow)
+    told_from _ told.custom _ told.audit _ told.deny _ told.allow
+    (or-none told.custom) (or-none told.audit) (or-none told.deny) (or-none told.allow)
 
 first-first : (one two three : Told) → first_told (first_told one two) three ≡ first_told one (first_told two three)
 first-first one two three = told_from _ _ _ _ _ _ _ _
@@ -110,7 +113,8 @@ module _ {F : Type 0} (run : F → RunState → Step) where
       ∙ ap (λ (f : F). (run f (after run (take i filters) state)).state) (sym is)
 
   -- a filter goes on
-  then-on : (step : Step) (next : RunState → Step) → is_going step.decision ≡ true → then_run step.decision step.state next ≡ next step.state
+  then-on : (step : Step) (next : RunState → Step) → is_going step.decision ≡ true
+      → then_run step.decision step.state next ≡ next step.state
   then-on step next h = at step.decision h where
     at : (d : Decision) → is_going d ≡ true → then_run d step.state next ≡ next step.state
     at goes_on e = refl
@@ -136,7 +140,8 @@ module _ {F : Type 0} (run : F → RunState → Step) where
     told-off unauthenticated later e = refl
     told-off refuses later e = refl
 
-    module _ (filters : List F) (i : ℕ) (filter : F) (start : RunState) (within : i < length filters) (is : filter ≡ get_or filters i filter) where
+    module _ (filters : List F) (i : ℕ) (filter : F) (start : RunState) (within : i < length filters)
+        (is : filter ≡ get_or filters i filter) where
       abbrev now : RunState
       now = after run (take i filters) start
 
@@ -158,7 +163,8 @@ module _ {F : Type 0} (run : F → RunState → Step) where
 
       pub hits-on : (whole so_far : Told) → whole ≡ first_told so_far (told_by run told i (drop i filters) now)
           → is_going (run filter now).decision ≡ true
-          → whole ≡ first_told (first_told so_far (told i filter now.seen)) (told_by run told (i + 1) rest (after run (take (i + 1) filters) start))
+          → whole ≡ first_told (first_told so_far (told i filter now.seen))
+          (told_by run told (i + 1) rest (after run (take (i + 1) filters) start))
       hits-on whole so_far h on =
           h ∙ ap (λ fs. first_told so_far (told_by run told i fs now)) left
           ∙ ap (λ (later : Told). first_told so_far (first_told (told i filter now.seen) later)) (told-on (run filter now).decision _ on)

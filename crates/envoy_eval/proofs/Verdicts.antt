@@ -1,14 +1,18 @@
 -- The place of a token's verdict, and the verdict.
-use Rattle.std.proofs.Common.{◌≡◌, ℕ, ◌+◌, suc, Bool, true, false, not, ◌&&◌, ◌||◌, List, [], ◌∷◌, find, Option, Some, None, is_some, cond, if◌then◌else◌, ap, sym, refl, subst, ◌∙◌, arith}
+use Rattle.std.proofs.Common.{◌≡◌, ℕ, ◌+◌, suc, Bool, true, false, not, ◌&&◌, ◌||◌, List, [], ◌∷◌, find, Option, Some, None, is_some}
+use Rattle.std.proofs.Common.{cond, if◌then◌else◌, ap, sym, refl, subst, ◌∙◌, arith}
 use Rattle.std.specs.List.{list_any, position_from, slice_get}
 use Rattle.std.specs.Option.{option_and_then, option_map, option_or}
+use Rattle.mesh_policy.specs.Attributes.{Seen}
+use Rattle.mesh_policy.specs.declared.token_verdict.ClaimField.{ClaimField}
 use Rattle.mesh_policy.specs.Authenticated.{is_answer, question_of, token_of, verdict_for}
 use Rattle.mesh_policy.specs.Lists.{first_answer}
 use Rattle.mesh_policy.specs.declared.case.Case.{Case}
 use Rattle.mesh_policy.specs.declared.jwt.JwtRule.{JwtRule}
 use Rattle.mesh_policy.specs.declared.token_verdict.TokenVerdict.{TokenVerdict}
 use Rattle.envoy_types.specs.Access.{first_position}
-use Rattle.envoy_types.specs.Jwt.{Authentication, Provider, has_token, names_of, provider_holds, provider_named, requirement_holds, verdict_by}
+use Rattle.envoy_types.specs.Jwt.{Authentication, Provider, has_token, names_of, provider_holds, provider_named, requirement_holds}
+use Rattle.envoy_types.specs.Jwt.{verdict_by}
 use Rattle.envoy_types.specs.Run.{Names, RunState, Step, goes_on, run_required, unauthenticated, with_claims}
 use Rattle.envoy_types.specs.State.{seen_of}
 use Rattle.envoy_types.specs.declared.jwt.Requirement.{Requirement}
@@ -54,7 +58,8 @@ module _ {V : Type 0} (xs : List V) where
   behind-agrees f g each None = tt
   behind-agrees f g each (Some x) = each x
 
-  or-agrees : (a : Option ℕ) (b : Option V) (c : Option ℕ) (d : Option V) → Agrees xs a b → Agrees xs c d → Agrees xs (option_or a c) (option_or b d)
+  or-agrees : (a : Option ℕ) (b : Option V) (c : Option ℕ) (d : Option V) → Agrees xs a b → Agrees xs c d
+      → Agrees xs (option_or a c) (option_or b d)
   or-agrees None None c d h k = k
   or-agrees None (Some v) c d h k = absurd h
   or-agrees (Some n) None c d h k = absurd h
@@ -69,25 +74,31 @@ module _ {V : Type 0} (xs : List V) where
 module _ (providers : List Provider) (case : Case) where
   for-agrees : (rule : JwtRule) → Agrees case.verdicts (place_for case rule) (verdict_for case rule)
   for-agrees rule = behind-agrees case.verdicts
-      (λ token. position_from (is_answer (question_of rule token)) 0 case.verdicts) (λ token. find (is_answer (question_of rule token)) case.verdicts)
+      (λ token. position_from (is_answer (question_of rule token)) 0 case.verdicts)
+      (λ token. find (is_answer (question_of rule token)) case.verdicts)
       (λ token. position-agrees (is_answer (question_of rule token)) case.verdicts) (token_of case rule)
 
   by-agrees : (name : List ℕ) → Agrees case.verdicts (place_by providers case name) (verdict_by providers case name)
   by-agrees name = behind-agrees case.verdicts
-      (λ (provider : Provider). place_for case provider.rule) (λ provider. verdict_for case provider.rule) (λ provider. for-agrees provider.rule)
+      (λ (provider : Provider). place_for case provider.rule) (λ provider. verdict_for case provider.rule)
+      (λ provider. for-agrees provider.rule)
       (provider_named providers name)
 
   -- the place and the verdict of the first provider that holds
   first_verdict : (requirement : Requirement)
-      → Agrees case.verdicts (first_place providers case (names_of requirement)) (first_answer (verdict_by providers case) (names_of requirement))
+      → Agrees case.verdicts (first_place providers case (names_of requirement))
+      (first_answer (verdict_by providers case) (names_of requirement))
   first_verdict requirement =
       answers-agree case.verdicts (place_by providers case) (verdict_by providers case) by-agrees (names_of requirement)
 
-  any-answers : (names : List (List ℕ)) → list_any (provider_holds providers case) names ≡ is_some (first_answer (verdict_by providers case) names)
+  any-answers : (names : List (List ℕ))
+      → list_any (provider_holds providers case) names ≡ is_some (first_answer (verdict_by providers case) names)
   any-answers [] = refl
   any-answers (name ∷ names) = at (verdict_by providers case name) (any-answers names) where
-    at : (v : Option TokenVerdict) → list_any (provider_holds providers case) names ≡ is_some (first_answer (verdict_by providers case) names)
-        → (is_some v || list_any (provider_holds providers case) names) ≡ is_some (option_or v (first_answer (verdict_by providers case) names))
+    at : (v : Option TokenVerdict)
+        → list_any (provider_holds providers case) names ≡ is_some (first_answer (verdict_by providers case) names)
+        → (is_some v || list_any (provider_holds providers case) names)
+        ≡ is_some (option_or v (first_answer (verdict_by providers case) names))
     at None h = h
     at (Some v) h = refl
 
@@ -99,7 +110,8 @@ module _ (providers : List Provider) (case : Case) where
   holds-by : (requirement : Requirement) → requirement_holds providers requirement case
       ≡ (is_some (first_answer (verdict_by providers case) (names_of requirement)) || may_miss providers case requirement)
   holds-by (One name) = only (verdict_by providers case name)
-  holds-by (AnyOf names allow_missing) = ap (λ b. b || (allow_missing && not (list_any (has_token providers case) names))) (any-answers names)
+  holds-by (AnyOf names allow_missing) =
+      ap (λ b. b || (allow_missing && not (list_any (has_token providers case) names))) (any-answers names)
 
 module _ (jwt : Authentication) (requirement : Requirement) (case : Case) (now : Standing) (names : Names) where
   abbrev found : Option TokenVerdict
@@ -107,6 +119,9 @@ module _ (jwt : Authentication) (requirement : Requirement) (case : Case) (now :
 
   abbrev meant : Step
   meant = run_required jwt case (standing case now names) (Some requirement)
+
+  abbrev with_seen : Option (List ClaimField) → Seen
+  with_seen claims = record { request = now.state.request_seen; peer = now.state.peer_seen; claims = claims }
 
   meant-found : (v : TokenVerdict) → found ≡ Some v
       → meant ≡ record { decision = goes_on; state = with_claims (Some v.claims) (standing case now names) }
@@ -119,11 +134,13 @@ module _ (jwt : Authentication) (requirement : Requirement) (case : Case) (now :
       → meant ≡ record { decision = (if missing then goes_on else unauthenticated); state = standing case now names }
   meant-lost true e m =
       let holds : requirement_holds jwt.providers requirement case ≡ true =
-      holds-by jwt.providers case requirement ∙ ap (λ (o : Option TokenVerdict). is_some o || may_miss jwt.providers case requirement) e ∙ m in
+      holds-by jwt.providers case requirement
+      ∙ ap (λ (o : Option TokenVerdict). is_some o || may_miss jwt.providers case requirement) e ∙ m in
       rw (holds, e) refl
   meant-lost false e m =
       let holds : requirement_holds jwt.providers requirement case ≡ false =
-      holds-by jwt.providers case requirement ∙ ap (λ (o : Option TokenVerdict). is_some o || may_miss jwt.providers case requirement) e ∙ m in
+      holds-by jwt.providers case requirement
+      ∙ ap (λ (o : Option TokenVerdict). is_some o || may_miss jwt.providers case requirement) e ∙ m in
       rw holds refl
 
   at_place : (place : ℕ) (v : Option TokenVerdict) → found ≡ v → Agrees case.verdicts (Some place) v → (ran : Ran)
@@ -135,7 +152,7 @@ module _ (jwt : Authentication) (requirement : Requirement) (case : Case) (now :
     decision = d ∙ ap (λ (step : Step). step.decision) (sym (meant-found v e));
     stands = record {
       seen = ap (seen_of case) s
-          ∙ ap (λ (o : Option TokenVerdict). record { request = now.state.request_seen; peer = now.state.peer_seen; claims = option_map (λ w. w.claims) o }) h
+          ∙ ap (λ (o : Option TokenVerdict). with_seen (option_map (λ w. w.claims) o)) h
           ∙ ap (λ (step : Step). step.state.seen) (sym (meant-found v e));
       audited = a ∙ ap (λ (step : Step). step.state.audited) (sym (meant-found v e));
     };
@@ -166,4 +183,5 @@ module _ (jwt : Authentication) (requirement : Requirement) (case : Case) (now :
   pub not_held : None ≡ first_place jwt.providers case (names_of requirement) → (ran : Ran)
       → decision_of ran.decision ≡ (if may_miss jwt.providers case requirement then goes_on else unauthenticated)
       → ran.after ≡ now → StepIs case ran meant
-  not_held p = nowhere found refl (subst (λ (o : Option ℕ). Agrees case.verdicts o found) (sym p) (first_verdict jwt.providers case requirement))
+  not_held p =
+      nowhere found refl (subst (λ (o : Option ℕ). Agrees case.verdicts o found) (sym p) (first_verdict jwt.providers case requirement))

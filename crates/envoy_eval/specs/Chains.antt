@@ -1,7 +1,7 @@
 -- What the filter chains that are left have in common, after each pruning (Envoy v3 API reference,
 -- `config.listener.v3.FilterChainMatch`).
 use Rattle.std.specs.Prelude.{ℕ, Bool, ◌&&◌, List, find, Option, Some, None, if◌then◌else◌}
-use Rattle.std.specs.List.{list_any, position_from}
+use Rattle.std.specs.List.{list_any, position_from, position_or_len}
 use Rattle.envoy_types.specs.Chosen.{is_any_name, is_any_port, is_any_transport, lists_name, names_port, names_transport}
 use Rattle.envoy_types.specs.declared.chains.ChainMatch.{ChainMatch}
 use Rattle.envoy_types.specs.declared.chains.FilterChain.{FilterChain}
@@ -33,7 +33,12 @@ abbrev pub transport_left : List FilterChain → Option ℕ → Transport → Op
 transport_left chains port transport =
     if list_any (λ c. has_port port c.matching && names_transport transport c.matching) chains then Some transport else None
 
--- the first offered name that a chain which is left lists
+-- where the first offered name stands that a chain which is left lists
+abbrev pub first_agreed : List FilterChain → Option ℕ → Option Transport → List (List ℕ) → ℕ
+first_agreed chains port transport names =
+    position_or_len (λ name. list_any (λ c. is_open port transport c.matching && lists_name name c.matching) chains) names
+
+-- that name
 abbrev pub name_left : List FilterChain → Option ℕ → Option Transport → List (List ℕ) → Option (List ℕ)
 name_left chains port transport names =
     find (λ name. list_any (λ c. is_open port transport c.matching && lists_name name c.matching) chains) names

@@ -46,7 +46,11 @@ abbrev pub own_position : Rules → Option ℕ → Option ℕ
 own_position rules None = None
 own_position rules (Some position) = if names_authorizer rules position then None else Some position
 
--- the rules' policy that holds is a hit of the stage of their action, beside the hit of the shadow rules
+-- the hit of shadow rules alone
+abbrev pub told_by_shadow : Option Hit → Told
+told_by_shadow custom = record { custom = custom; audit = None; deny = None; allow = None }
+
+-- beside it, the rules' policy that holds is a hit of the stage of their action
 abbrev pub told_by_action : RbacAction → ℕ → Rules → Option ℕ → Option Hit → Told
 told_by_action Allow place rules position custom = record { custom = custom; audit = None; deny = None; allow = hit_at place position }
 told_by_action Deny place rules position custom =
@@ -55,7 +59,7 @@ told_by_action Log place rules position custom = record { custom = custom; audit
 
 -- rules that are absent have no hit
 abbrev pub told_by_rules : ℕ → Option Rules → Case → Seen → Option Hit → Told
-told_by_rules place None case seen custom = record { custom = custom; audit = None; deny = None; allow = None }
+told_by_rules place None case seen custom = told_by_shadow custom
 told_by_rules place (Some rules) case seen custom = told_by_action rules.action place rules (effective rules case seen) custom
 
 -- the hits of a filter at a place: that of its shadow rules, and that of its rules

@@ -5,3 +5,4 @@ pub mod Runs
 pub mod Steps
 pub mod Tokens
 pub mod Trace
+pub mod WorkedTraces

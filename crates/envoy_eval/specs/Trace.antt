@@ -4,12 +4,11 @@ use Rattle.std.specs.Prelude.{ℕ, Bool, true, false, not, ◌&&◌, List, Optio
 use Rattle.std.specs.List.{slice_get}
 use Rattle.std.specs.Option.{option_and_then}
 use Rattle.mesh_policy.specs.declared.case.Case.{Case}
-use Rattle.mesh_policy.specs.declared.verdict.Outcome.TheVariants.{Admitted, Refused403, Closed}
 use Rattle.mesh_policy.specs.declared.verdict.Verdict.{Verdict}
 use Rattle.envoy_types.specs.Chosen.{chosen}
 use Rattle.envoy_types.specs.ListenerVerdict as meaning
 use Rattle.envoy_types.specs.ListenerVerdict.{envoy_verdict, shows_peer}
-use Rattle.envoy_types.specs.Run.{run_filters, run_http, run_network}
+use Rattle.envoy_types.specs.Run.{run_http, run_network}
 use Rattle.envoy_types.specs.declared.chains.ChainBody.{ChainBody}
 use Rattle.envoy_types.specs.declared.chains.ChainBody.TheVariants.{Tcp, Http}
 use Rattle.envoy_types.specs.declared.chains.FilterChain.{FilterChain}
@@ -30,13 +29,7 @@ nothing_told = words.nothing_told
 abbrev pub start : (is_http mutual_tls : Bool) → State
 start is_http mutual_tls = record { request_seen = is_http; peer_seen = mutual_tls; verdict = None }
 
--- The filters of an HTTP chain run where it can read the connection, and a request is there.
-abbrev pub http_verdict : (mutual_tls : Bool) → List HttpFilter → Case → Verdict
-http_verdict mutual_tls filters case =
-    if not mutual_tls && is_some case.tls then meaning.unmarked Closed
-    else (if is_none case.request then meaning.unmarked Admitted
-    else meaning.verdict_of Refused403 (run_filters (run_http case) filters (meaning.start true mutual_tls)))
-
+-- the filters of an HTTP chain run where it can read the connection, and a request is there
 abbrev pub told_by_http : (mutual_tls : Bool) → List HttpFilter → Case → Told
 told_by_http mutual_tls filters case =
     if not mutual_tls && is_some case.tls then nothing_told

@@ -88,8 +88,7 @@ fn first_agreed(
     transport: Option<Transport>,
     names: &[Text],
 ) -> usize
-    ensures { result
-        ≡ position_or_len (λ name. list_any (λ c. left.is_open port transport c.matching && chosen.lists_name name c.matching) chains.now) names.now }
+    ensures { result ≡ left.first_agreed chains.now port transport names.now }
 {
     let mut first = names.len();
     for chain in chains {

@@ -5,7 +5,7 @@ ghost use Rattle.envoy_types.specs.Access.{Rules, name_at};
 ghost use Rattle.envoy_types.specs.State.{holds_of};
 ghost use Rattle.envoy_eval.specs.Hits as hits;
 
-use envoy_types::RbacRules;
+use envoy_types::{RbacAction, RbacRules};
 use mesh_policy::Verdict;
 use mesh_text::is_prefix;
 
@@ -91,8 +91,51 @@ pub(crate) fn hit_at(place: usize, position: Option<usize>) -> Option<Hit>
     }
 }
 
-/// The position, unless the policy there stands in for an authorizer.
-pub(crate) fn own_position(rules: &RbacRules, position: Option<usize>) -> Option<usize>
+/// The hit of shadow rules alone.
+pub(crate) fn told_by_shadow(custom: Option<Hit>) -> Told
+    ensures { result ≡ hits.told_by_shadow custom }
+{
+    Told {
+        custom,
+        audit: None,
+        deny: None,
+        allow: None,
+    }
+}
+
+/// That hit, and the hit of rules of which the policy at a position holds.
+pub(crate) fn told_by_action(
+    place: usize,
+    rules: &RbacRules,
+    position: Option<usize>,
+    custom: Option<Hit>,
+) -> Told
+    ensures { result ≡ hits.told_by_action rules.now.action place rules.now position custom }
+{
+    match rules.action {
+        RbacAction::Allow => Told {
+            custom,
+            audit: None,
+            deny: None,
+            allow: hit_at(place, position),
+        },
+        RbacAction::Deny => Told {
+            custom,
+            audit: None,
+            deny: hit_at(place, own_position(rules, position)),
+            allow: None,
+        },
+        RbacAction::Log => Told {
+            custom,
+            audit: hit_at(place, position),
+            deny: None,
+            allow: None,
+        },
+    }
+}
+
+// the position, unless the policy there stands in for an authorizer
+fn own_position(rules: &RbacRules, position: Option<usize>) -> Option<usize>
     ensures { result ≡ hits.own_position rules.now position }
 {
     match position {

@@ -12,8 +12,10 @@ mod names;
 mod run;
 mod steps;
 mod tokens;
+mod worked;
 
 pub use access::effective;
 pub use chains::choose;
 pub use hits::{Hit, Hits};
 pub use listener::{judge, trace};
+pub use worked::hits_are_traced;

@@ -1,8 +1,9 @@
 // The verdict of a listener, and the trace of what its filters hit.
-ghost use Rattle.std.specs.Prelude.{◌≡◌};
+ghost use Rattle.std.specs.Prelude.{◌≡◌, ℕ, List};
 ghost use Rattle.std.specs.List.{slice_get};
 ghost use Rattle.std.specs.Option.{option_and_then, option_copied};
 ghost use Rattle.envoy_types.specs.ListenerVerdict as meaning;
+ghost use Rattle.envoy_types.specs.declared.chains.ChainBody.TheVariants.{Http};
 ghost use Rattle.envoy_eval.specs.Steps.{decision_of};
 ghost use Rattle.envoy_eval.specs.Trace as trace;
 
@@ -97,7 +98,7 @@ fn judge_body(mutual_tls: bool, body: &ChainBody, case: &Case) -> Judged
 }
 
 fn judge_http(mutual_tls: bool, filters: &[HttpFilter], case: &Case) -> Judged
-    ensures verdict { result.verdict ≡ trace.http_verdict mutual_tls filters.now case.now }
+    ensures verdict { (cluster : List ℕ) → result.verdict ≡ meaning.body_verdict mutual_tls (Http filters.now cluster) case.now }
     ensures told { result.told ≡ trace.told_by_http mutual_tls filters.now case.now }
 {
     if !mutual_tls && case.tls.is_some() {
@@ -139,7 +140,8 @@ fn without_run(outcome: Outcome) -> Judged
 
 // by what the filters have decided, and what a refusal is
 fn with_outcome(refusal: Outcome, ran: Ran) -> Judged
-    ensures verdict { result.verdict ≡ record { outcome = meaning.outcome_of refusal (decision_of ran.decision); audited = ran.after.audited } }
+    ensures verdict { result.verdict
+        ≡ record { outcome = meaning.outcome_of refusal (decision_of ran.decision); audited = ran.after.audited } }
     ensures told { result.told ≡ ran.told }
 {
     Judged {

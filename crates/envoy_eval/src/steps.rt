@@ -10,7 +10,7 @@ ghost use Rattle.envoy_eval.specs.Steps.{StepIs, decision_of, standing};
 
 use crate::access::effective;
 use crate::authz::{is_asked, service_passes};
-use crate::hits::{Hit, Told, hit_at, nothing_told, own_position};
+use crate::hits::{Hit, Told, hit_at, nothing_told, told_by_action, told_by_shadow};
 use crate::tokens::{first_place, may_miss, required};
 use envoy_types::{ExtAuthz, JwtAuthn, Rbac, RbacAction, RbacRules, Requirement, State};
 use mesh_policy::Case;
@@ -119,12 +119,7 @@ pub(crate) fn run_rbac(place: usize, rbac: &Rbac, case: &Case, now: Standing) ->
         None => Ran {
             decision: Decision::GoesOn,
             after: now,
-            told: Told {
-                custom,
-                audit: None,
-                deny: None,
-                allow: None,
-            },
+            told: told_by_shadow(custom),
         },
         Some(rules) => run_rules(
             place,
@@ -153,45 +148,38 @@ fn run_rules(
     custom: Option<Hit>,
     now: Standing,
 ) -> Ran
-    ensures decision { decision_of result.decision ≡ (if access.action_passes rules.now.action (is_some position) then goes_on else refuses) }
+    ensures decision { decision_of result.decision
+        ≡ (if access.action_passes rules.now.action (is_some position) then goes_on else refuses) }
     ensures state { result.after.state ≡ now.state }
     ensures audited { result.after.audited ≡ (now.audited || access.action_marks rules.now.action (is_some position)) }
     ensures told { result.told ≡ hits.told_by_action rules.now.action place rules.now position custom }
 {
-    match rules.action {
-        RbacAction::Allow => Ran {
-            decision: decided(position.is_some()),
-            after: now,
-            told: Told {
-                custom,
-                audit: None,
-                deny: None,
-                allow: hit_at(place, position),
-            },
+    Ran {
+        decision: decided(passes(rules.action, position.is_some())),
+        after: Standing {
+            state: now.state,
+            audited: now.audited || marks(rules.action, position.is_some()),
         },
-        RbacAction::Deny => Ran {
-            decision: decided(position.is_none()),
-            after: now,
-            told: Told {
-                custom,
-                audit: None,
-                deny: hit_at(place, own_position(rules, position)),
-                allow: None,
-            },
-        },
-        RbacAction::Log => Ran {
-            decision: Decision::GoesOn,
-            after: Standing {
-                state: now.state,
-                audited: now.audited || position.is_some(),
-            },
-            told: Told {
-                custom,
-                audit: hit_at(place, position),
-                deny: None,
-                allow: None,
-            },
-        },
+        told: told_by_action(place, rules, position, custom),
+    }
+}
+
+fn passes(action: RbacAction, holds: bool) -> bool
+    ensures { result ≡ access.action_passes action holds }
+{
+    match action {
+        RbacAction::Allow => holds,
+        RbacAction::Deny => !holds,
+        RbacAction::Log => true,
+    }
+}
+
+fn marks(action: RbacAction, holds: bool) -> bool
+    ensures { result ≡ access.action_marks action holds }
+{
+    match action {
+        RbacAction::Allow | RbacAction::Deny => false,
+        RbacAction::Log => holds,
     }
 }
 

@@ -12,4 +12,5 @@ closed b matching names e = rw e (none-passes names)
 
 pub returns-else-is_open : goal.returns-else-is_open
 returns-else-is_open c =
-    closed (is_open c.args.port c.args.transport c.args.matching.now) c.args.matching.now c.args.names.now (sym c.is_open.ensures ∙ c.if-is_open.false)
+    closed (is_open c.args.port c.args.transport c.args.matching.now) c.args.matching.now c.args.names.now
+    (sym c.is_open.ensures ∙ c.if-is_open.false)

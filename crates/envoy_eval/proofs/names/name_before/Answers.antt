@@ -10,7 +10,8 @@ loop-filter-preserved g c =
     let run = g.F.Filter.run c.args.case.now in
     let start = begin c.args.case.now c.args.start in
     let before = after run (take c.loop-filter.filter-index c.args.filters.now) start in
-    let one = after-one run c.args.filters.now c.loop-filter.filter-index c.filter-item.result start c.loop-filter-test.true c.filter-item.is in
+    let one = after-one run c.args.filters.now c.loop-filter.filter-index c.filter-item.result start
+    c.loop-filter-test.true c.filter-item.is in
     record {
       seen = ap (λ (s : RunState). s.seen) one
           ∙ ap (λ (step : Step). step.state.seen) (c.part-in-loop-filter.ensures.runs c.args.case.now before)

@@ -9,5 +9,6 @@ use Rattle.envoy_eval.proofs.names.name_before.Given as goal
 abbrev pub invariant-loop-filter : goal.invariant-loop-filter
 invariant-loop-filter g l = record {
   seen : (after (g.F.Filter.run l.case) (take l.filter-index l.filters) (begin l.case l.fn.start)).seen ≡ seen_of l.case l.state;
-  name : option_copied l.name ≡ name_of l.key (after (g.F.Filter.run l.case) (take l.filter-index l.filters) (begin l.case l.fn.start)).names;
+  name : option_copied l.name ≡ name_of l.key (after (g.F.Filter.run l.case) (take l.filter-index l.filters)
+      (begin l.case l.fn.start)).names;
 }

@@ -14,7 +14,8 @@ use Rattle.envoy_eval.proofs.Keys.{name-set}
 use Rattle.envoy_eval.proofs.Runs.{jwt-names}
 use Rattle.envoy_eval.proofs.names.name_behind.Goals as goal
 
-names-left : (case : Case) (before : RunState) (part : Part) (jwt : Bor Authentication) → part ≡ Jwt jwt → (run_part case part before).state.names ≡ before.names
+names-left : (case : Case) (before : RunState) (part : Part) (jwt : Bor Authentication) → part ≡ Jwt jwt
+    → (run_part case part before).state.names ≡ before.names
 names-left case before part jwt is = ap (λ (p : Part). (run_part case p before).state.names) is ∙ jwt-names jwt.now case before
 
 pub returns-in-Jwt : goal.returns-in-Jwt
@@ -29,5 +30,6 @@ returns-in-Rbac c before e named =
     ∙ ap (λ (seen : Seen). if bytes_eq (shadow_key c.in-Rbac.rbac.now) c.args.key.now
     then option_or (shadow_name c.in-Rbac.rbac.now.shadow c.args.case.now seen) (name_of c.args.key.now before.names)
     else name_of c.args.key.now before.names) (sym e)
-    ∙ sym (name-set c.args.key.now (shadow_key c.in-Rbac.rbac.now) (shadow_name c.in-Rbac.rbac.now.shadow c.args.case.now before.seen) before.names)
+    ∙ sym (name-set c.args.key.now (shadow_key c.in-Rbac.rbac.now)
+    (shadow_name c.in-Rbac.rbac.now.shadow c.args.case.now before.seen) before.names)
     ∙ ap (λ (part : Part). name_of c.args.key.now (run_part c.args.case.now part before).state.names) (sym c.in-Rbac.is)

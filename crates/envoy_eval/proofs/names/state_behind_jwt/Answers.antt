@@ -4,4 +4,5 @@ use Rattle.std.proofs.Common.{false}
 
 pub returns : goal.returns
 returns c before e =
-    jwt-after c.args.jwt.now c.args.case.now (record { state = c.args.state; audited = false }) before c.run_jwt.result e c.run_jwt.ensures.step
+    jwt-after c.args.jwt.now c.args.case.now (record { state = c.args.state; audited = false }) before
+    c.run_jwt.result e c.run_jwt.ensures.step

@@ -1,6 +1,6 @@
 -- The first name that one of several chains lists, chain by chain.
 use Rattle.std.proofs.Common.{◌≡◌, ℕ, zero, suc, ◌+◌, ◌<◌, ◌≤◌, Bool, true, false, not, ◌||◌, List, [], ◌∷◌, length, take, drop, get_or}
-use Rattle.std.proofs.Common.{find, Option, Some, cond, ap, sym, refl, ◌∙◌, arith}
+use Rattle.std.proofs.Common.{find, Option, cond, ap, sym, refl, ◌∙◌, arith}
 use Rattle.std.proofs.lemmas.List.{drop_all, drop_more, length-take-le}
 use Rattle.std.proofs.lemmas.List.Folds.{find_at}
 use Rattle.std.proofs.lemmas.List.Sums.{prefix_len-le-length}

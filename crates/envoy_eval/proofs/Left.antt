@@ -10,7 +10,7 @@ use Rattle.envoy_types.specs.declared.chains.ChainMatch.{ChainMatch}
 use Rattle.envoy_types.specs.declared.chains.FilterChain.{FilterChain}
 use Rattle.envoy_types.specs.declared.chains.Listener.{Listener}
 use Rattle.envoy_types.specs.declared.chains.Transport.{Transport}
-use Rattle.envoy_eval.specs.Chains.{first_left, has_name, has_port, has_transport, is_open, name_left, port_left, transport_left}
+use Rattle.envoy_eval.specs.Chains.{first_left, has_name, has_port, is_open, name_left, port_left, transport_left}
 
 -- the placed chains that pass a test
 abbrev kept : (ChainMatch → Bool) → ℕ → List FilterChain → List Placed

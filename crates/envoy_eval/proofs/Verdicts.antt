@@ -13,15 +13,13 @@ use Rattle.mesh_policy.specs.declared.token_verdict.TokenVerdict.{TokenVerdict}
 use Rattle.envoy_types.specs.Access.{first_position}
 use Rattle.envoy_types.specs.Jwt.{Authentication, Provider, has_token, names_of, provider_holds, provider_named, requirement_holds}
 use Rattle.envoy_types.specs.Jwt.{verdict_by}
-use Rattle.envoy_types.specs.Run.{Names, RunState, Step, goes_on, run_required, unauthenticated, with_claims}
+use Rattle.envoy_types.specs.Run.{Names, Step, goes_on, run_required, unauthenticated, with_claims}
 use Rattle.envoy_types.specs.State.{seen_of}
 use Rattle.envoy_types.specs.declared.jwt.Requirement.{Requirement}
 use Rattle.envoy_types.specs.declared.jwt.Requirement.TheVariants.{One, AnyOf}
-use Rattle.envoy_types.specs.declared.state.State.{State}
 use Rattle.envoy_eval.proofs.Places.{position-first}
-use Rattle.envoy_eval.specs.Steps.{StepIs, Stands, decision_of, standing}
+use Rattle.envoy_eval.specs.Steps.{StepIs, decision_of, standing}
 use Rattle.envoy_eval.specs.Tokens.{first_place, may_miss, place_by, place_for}
-use Rattle.envoy_eval.specs.declared.steps.Decision.TheVariants.{GoesOn}
 use Rattle.envoy_eval.specs.declared.steps.Ran.{Ran}
 use Rattle.envoy_eval.specs.declared.steps.Standing.{Standing}
 

@@ -1,5 +1,5 @@
 -- What the rules of the worked traces hold for.
-use Rattle.std.proofs.Common.{◌≡◌, ℕ, Bool, true, List, [], ◌∷◌, Option, Some, refl, ◌∙◌}
+use Rattle.std.proofs.Common.{◌≡◌, ℕ, Bool, true, List, [], ◌∷◌, Some, refl, ◌∙◌}
 use Rattle.mesh_policy.specs.Attributes.{Seen}
 use Rattle.mesh_policy.specs.declared.case.Case.{Case}
 use Rattle.mesh_tree.specs.Judge.{node_holds, tree_holds}

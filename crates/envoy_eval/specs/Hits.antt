@@ -1,6 +1,6 @@
 -- Which policies the rules of filters hit, stage by stage (Envoy reference, "Role Based Access Control (RBAC) Filter": shadow
 -- rules, and the actions ALLOW, DENY and LOG).
-use Rattle.std.specs.Prelude.{ℕ, Bool, List, [], codes, Option, Some, None, if◌then◌else◌}
+use Rattle.std.specs.Prelude.{ℕ, Bool, codes, Option, Some, None, if◌then◌else◌}
 use Rattle.std.specs.List.{slice_get}
 use Rattle.std.specs.Option.{option_map, option_or}
 use Rattle.mesh_text.specs.Parts.{is_prefix}

@@ -153,9 +153,9 @@ module _ (listener : Listener) (case : Case) where
 
 -- what the steps of the choice answer
 pub chosen-by : (listener : Listener) (case : Case) (chains : List FilterChain) (port : Option ℕ) (protocol : Transport)
-    (transport : Option Transport) (names : List (List ℕ)) (name : Option (List ℕ)) (place : Option ℕ)
+    (transport : Option Transport) (names : List (List ℕ)) (name : Option (List ℕ)) (position : Option ℕ)
     → chains ≡ listener.chains → port ≡ port_left chains case.port → protocol ≡ meaning.transport_of case.tls
     → transport ≡ transport_left chains port protocol → names ≡ meaning.offered case.tls → name ≡ name_left chains port transport names
-    → place ≡ first_left chains port transport name → place ≡ chosen listener case
-chosen-by listener case chains port protocol transport names name place e1 e2 e3 e4 e5 e6 e7 =
+    → position ≡ first_left chains port transport name → position ≡ chosen listener case
+chosen-by listener case chains port protocol transport names name position e1 e2 e3 e4 e5 e6 e7 =
     rw (e7, e6, e5, e4, e3, e2, e1) (sym (chosen-left listener case))

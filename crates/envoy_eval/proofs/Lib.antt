@@ -1,4 +1,4 @@
-pub mod Places
+pub mod Positions
 pub mod Runs
 pub mod Agreed
 pub mod Held

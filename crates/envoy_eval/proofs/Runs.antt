@@ -11,12 +11,12 @@ use Rattle.envoy_types.specs.Run.{Decision, Names, RunState, Step, goes_on, refu
 use Rattle.envoy_types.specs.Run.{unauthenticated, with_claims}
 use Rattle.envoy_types.specs.State.{seen_of}
 use Rattle.envoy_types.specs.declared.jwt.Requirement.{Requirement}
-use Rattle.envoy_eval.specs.Hits.{first_told, nothing_told}
-use Rattle.envoy_eval.specs.Runs.{after, is_going, told_by, unless_refused}
+use Rattle.envoy_eval.specs.Hits.{first_hits, no_hits}
+use Rattle.envoy_eval.specs.Runs.{after, is_going, run_hits, unless_refused}
 use Rattle.envoy_eval.specs.Steps.{StepIs, Stands, decision_of, standing}
 use Rattle.envoy_eval.specs.declared.hits.Hit.{Hit}
-use Rattle.envoy_eval.specs.declared.hits.Told.{Told}
-use Rattle.envoy_eval.specs.declared.steps.Ran.{Ran}
+use Rattle.envoy_eval.specs.declared.hits.StageHits.{StageHits}
+use Rattle.envoy_eval.specs.declared.steps.FilterStep.{FilterStep}
 use Rattle.envoy_eval.specs.declared.steps.Standing.{Standing}
 
 -- ---- a token filter leaves the names, and its claims are by what was seen
@@ -54,7 +54,8 @@ jwt-names jwt case one = of (required jwt case) where
   of (Some requirement) = by requirement _ refl
 
 -- what is seen behind it
-pub jwt-after : (jwt : Authentication) (case : Case) (now : Standing) (before : RunState) (ran : Ran) → before.seen ≡ seen_of case now.state
+pub jwt-after : (jwt : Authentication) (case : Case) (now : Standing) (before : RunState) (ran : FilterStep)
+    → before.seen ≡ seen_of case now.state
     → ((names : Names) → StepIs case ran (run_jwt jwt case (standing case now names)))
     → seen_of case ran.after.state ≡ (run_jwt jwt case before).state.seen
 jwt-after jwt case now before ran e step = (step []).stands.seen ∙ jwt-seen jwt case (standing case now []) before (sym e)
@@ -67,7 +68,7 @@ whole case now meant h =
     ap (λ (seen : Seen). record { seen = seen; audited = now.audited; names = meant.names }) h.seen
     ∙ ap (λ (audited : Bool). record { seen = meant.seen; audited = audited; names = meant.names }) h.audited
 
-pub step-from : (case : Case) (now : Standing) (before : RunState) (ran : Ran) (run : RunState → Step) (meant : Step)
+pub step-from : (case : Case) (now : Standing) (before : RunState) (ran : FilterStep) (run : RunState → Step) (meant : Step)
     → Stands case now before → meant ≡ run before → StepIs case ran (run (standing case now before.names)) → StepIs case ran meant
 step-from case now before ran run meant stands e h =
     subst (λ (step : Step). StepIs case ran step) (ap run (whole case now before stands) ∙ sym e) h
@@ -82,19 +83,19 @@ or-or : (one two three : Option Hit) → option_or (option_or one two) three ≡
 or-or None two three = refl
 or-or (Some hit) two three = refl
 
-abbrev four : (c a d l : Option Hit) → Told
+abbrev four : (c a d l : Option Hit) → StageHits
 four c a d l = record { custom = c; audit = a; deny = d; allow = l }
 
-told_from : (c c' a a' d d' l l' : Option Hit) → c ≡ c' → a ≡ a' → d ≡ d' → l ≡ l' → four c a d l ≡ four c' a' d' l'
-told_from c c' a a' d d' l l' e f g h = cc
+hits_from : (c c' a a' d d' l l' : Option Hit) → c ≡ c' → a ≡ a' → d ≡ d' → l ≡ l' → four c a d l ≡ four c' a' d' l'
+hits_from c c' a a' d d' l l' e f g h = cc
 
-first-nothing : (told : Told) → first_told told nothing_told ≡ told
-first-nothing told =
-    told_from _ told.custom _ told.audit _ told.deny _ told.allow
-    (or-none told.custom) (or-none told.audit) (or-none told.deny) (or-none told.allow)
+first-nothing : (hits : StageHits) → first_hits hits no_hits ≡ hits
+first-nothing hits =
+    hits_from _ hits.custom _ hits.audit _ hits.deny _ hits.allow
+    (or-none hits.custom) (or-none hits.audit) (or-none hits.deny) (or-none hits.allow)
 
-first-first : (one two three : Told) → first_told (first_told one two) three ≡ first_told one (first_told two three)
-first-first one two three = told_from _ _ _ _ _ _ _ _
+first-first : (one two three : StageHits) → first_hits (first_hits one two) three ≡ first_hits one (first_hits two three)
+first-first one two three = hits_from _ _ _ _ _ _ _ _
     (or-or one.custom two.custom three.custom) (or-or one.audit two.audit three.audit)
     (or-or one.deny two.deny three.deny) (or-or one.allow two.allow three.allow)
 
@@ -129,16 +130,16 @@ module _ {F : Type 0} (run : F → RunState → Step) where
     at unauthenticated e = refl
     at refuses e = refl
 
-  module _ (told : ℕ → F → Seen → Told) where
-    told-on : (d : Decision) (later : Told) → is_going d ≡ true → unless_refused d later ≡ later
-    told-on goes_on later e = refl
-    told-on unauthenticated later e = cc
-    told-on refuses later e = cc
+  module _ (hits : ℕ → F → Seen → StageHits) where
+    later-on : (d : Decision) (later : StageHits) → is_going d ≡ true → unless_refused d later ≡ later
+    later-on goes_on later e = refl
+    later-on unauthenticated later e = cc
+    later-on refuses later e = cc
 
-    told-off : (d : Decision) (later : Told) → is_going d ≡ false → unless_refused d later ≡ nothing_told
-    told-off goes_on later e = cc
-    told-off unauthenticated later e = refl
-    told-off refuses later e = refl
+    later-off : (d : Decision) (later : StageHits) → is_going d ≡ false → unless_refused d later ≡ no_hits
+    later-off goes_on later e = cc
+    later-off unauthenticated later e = refl
+    later-off refuses later e = refl
 
     module _ (filters : List F) (i : ℕ) (filter : F) (start : RunState) (within : i < length filters)
         (is : filter ≡ get_or filters i filter) where
@@ -161,39 +162,41 @@ module _ {F : Type 0} (run : F → RunState → Step) where
           → whole ≡ run filter now
       run-off whole h off = h ∙ ap (λ fs. run_filters run fs now) left ∙ then-off (run filter now) (run_filters run rest) off
 
-      pub hits-on : (whole so_far : Told) → whole ≡ first_told so_far (told_by run told i (drop i filters) now)
+      pub hits-on : (whole so_far : StageHits) → whole ≡ first_hits so_far (run_hits run hits i (drop i filters) now)
           → is_going (run filter now).decision ≡ true
-          → whole ≡ first_told (first_told so_far (told i filter now.seen))
-          (told_by run told (i + 1) rest (after run (take (i + 1) filters) start))
+          → whole ≡ first_hits (first_hits so_far (hits i filter now.seen))
+          (run_hits run hits (i + 1) rest (after run (take (i + 1) filters) start))
       hits-on whole so_far h on =
-          h ∙ ap (λ fs. first_told so_far (told_by run told i fs now)) left
-          ∙ ap (λ (later : Told). first_told so_far (first_told (told i filter now.seen) later)) (told-on (run filter now).decision _ on)
-          ∙ sym (first-first so_far (told i filter now.seen) (told_by run told (i + 1) rest (run filter now).state))
-          ∙ ap (λ (s : RunState). first_told (first_told so_far (told i filter now.seen)) (told_by run told (i + 1) rest s))
+          h ∙ ap (λ fs. first_hits so_far (run_hits run hits i fs now)) left
+          ∙ ap (λ (later : StageHits). first_hits so_far (first_hits (hits i filter now.seen) later))
+          (later-on (run filter now).decision _ on)
+          ∙ sym (first-first so_far (hits i filter now.seen) (run_hits run hits (i + 1) rest (run filter now).state))
+          ∙ ap (λ (s : RunState). first_hits (first_hits so_far (hits i filter now.seen)) (run_hits run hits (i + 1) rest s))
           (sym (after-one filters i filter start within is))
 
-      pub hits-off : (whole so_far : Told) → whole ≡ first_told so_far (told_by run told i (drop i filters) now)
-          → is_going (run filter now).decision ≡ false → whole ≡ first_told so_far (told i filter now.seen)
+      pub hits-off : (whole so_far : StageHits) → whole ≡ first_hits so_far (run_hits run hits i (drop i filters) now)
+          → is_going (run filter now).decision ≡ false → whole ≡ first_hits so_far (hits i filter now.seen)
       hits-off whole so_far h off =
-          h ∙ ap (λ fs. first_told so_far (told_by run told i fs now)) left
-          ∙ ap (λ (later : Told). first_told so_far (first_told (told i filter now.seen) later)) (told-off (run filter now).decision _ off)
-          ∙ ap (λ (t : Told). first_told so_far t) (first-nothing (told i filter now.seen))
+          h ∙ ap (λ fs. first_hits so_far (run_hits run hits i fs now)) left
+          ∙ ap (λ (later : StageHits). first_hits so_far (first_hits (hits i filter now.seen) later))
+          (later-off (run filter now).decision _ off)
+          ∙ ap (λ (t : StageHits). first_hits so_far t) (first-nothing (hits i filter now.seen))
 
       -- a turn of the loop
-      pub loop-on : (case : Case) (standing_now : Standing) (ran : Ran) (so_far next : Told) → Stands case standing_now now
+      pub loop-on : (case : Case) (standing_now : Standing) (ran : FilterStep) (so_far next : StageHits) → Stands case standing_now now
           → run_filters run filters start ≡ run_filters run (drop i filters) now
-          → told_by run told 0 filters start ≡ first_told so_far (told_by run told i (drop i filters) now)
-          → StepIs case ran (run filter now) → ran.told ≡ told i filter (seen_of case standing_now.state)
-          → next ≡ first_told so_far ran.told → is_going (decision_of ran.decision) ≡ true
+          → run_hits run hits 0 filters start ≡ first_hits so_far (run_hits run hits i (drop i filters) now)
+          → StepIs case ran (run filter now) → ran.hits ≡ hits i filter (seen_of case standing_now.state)
+          → next ≡ first_hits so_far ran.hits → is_going (decision_of ran.decision) ≡ true
           → Stands case ran.after (after run (take (i + 1) filters) start)
           × (run_filters run filters start ≡ run_filters run rest (after run (take (i + 1) filters) start))
-          × (told_by run told 0 filters start ≡ first_told next (told_by run told (i + 1) rest (after run (take (i + 1) filters) start)))
+          × (run_hits run hits 0 filters start ≡ first_hits next (run_hits run hits (i + 1) rest (after run (take (i + 1) filters) start)))
       loop-on case standing_now ran so_far next stands decides tells step said e on =
           let going : is_going (run filter now).decision ≡ true = ap is_going (sym step.decision) ∙ on in
-          let hit : told i filter now.seen ≡ ran.told = ap (λ (s : Seen). told i filter s) (sym stands.seen) ∙ sym said in (
+          let hit : hits i filter now.seen ≡ ran.hits = ap (λ (s : Seen). hits i filter s) (sym stands.seen) ∙ sym said in (
             subst (λ (s : RunState). Stands case ran.after s) (sym (after-one filters i filter start within is)) step.stands,
             run-on (run_filters run filters start) decides going,
-            hits-on (told_by run told 0 filters start) so_far tells going
-                ∙ ap (λ (t : Told). first_told t (told_by run told (i + 1) rest (after run (take (i + 1) filters) start)))
-                (ap (λ (t : Told). first_told so_far t) hit ∙ sym e),
+            hits-on (run_hits run hits 0 filters start) so_far tells going
+                ∙ ap (λ (t : StageHits). first_hits t (run_hits run hits (i + 1) rest (after run (take (i + 1) filters) start)))
+                (ap (λ (t : StageHits). first_hits so_far t) hit ∙ sym e),
           )

@@ -17,10 +17,10 @@ use Rattle.envoy_types.specs.Run.{Names, Step, goes_on, run_required, unauthenti
 use Rattle.envoy_types.specs.State.{seen_of}
 use Rattle.envoy_types.specs.declared.jwt.Requirement.{Requirement}
 use Rattle.envoy_types.specs.declared.jwt.Requirement.TheVariants.{One, AnyOf}
-use Rattle.envoy_eval.proofs.Places.{position-first}
+use Rattle.envoy_eval.proofs.Positions.{position-first}
 use Rattle.envoy_eval.specs.Steps.{StepIs, decision_of, standing}
-use Rattle.envoy_eval.specs.Tokens.{first_place, may_miss, place_by, place_for}
-use Rattle.envoy_eval.specs.declared.steps.Ran.{Ran}
+use Rattle.envoy_eval.specs.Tokens.{first_position_by, may_miss, position_by, position_for}
+use Rattle.envoy_eval.specs.declared.steps.FilterStep.{FilterStep}
 use Rattle.envoy_eval.specs.declared.steps.Standing.{Standing}
 
 -- the entry stands at the place, or there is neither
@@ -30,8 +30,8 @@ Agrees xs None (Some v) = ⊥
 Agrees xs (Some k) None = ⊥
 Agrees xs (Some k) (Some v) = slice_get xs k ≡ Some v
 
-behind-one : {V : Type 0} (x : V) (xs : List V) (place : Option ℕ) (found : Option V) → Agrees xs place found
-    → Agrees (x ∷ xs) (option_map (λ k. k + 1) place) found
+behind-one : {V : Type 0} (x : V) (xs : List V) (position : Option ℕ) (found : Option V) → Agrees xs position found
+    → Agrees (x ∷ xs) (option_map (λ k. k + 1) position) found
 behind-one x xs None None h = tt
 behind-one x xs None (Some v) h = absurd h
 behind-one x xs (Some k) None h = absurd h
@@ -48,7 +48,8 @@ first-agrees test (x ∷ xs) = at (test x) (behind-one x xs (first_position test
   at false h = h
 
 position-agrees : {V : Type 0} (test : V → Bool) (xs : List V) → Agrees xs (position_from test 0 xs) (find test xs)
-position-agrees test xs = subst (λ (place : Option ℕ). Agrees xs place (find test xs)) (sym (position-first test xs)) (first-agrees test xs)
+position-agrees test xs =
+    subst (λ (position : Option ℕ). Agrees xs position (find test xs)) (sym (position-first test xs)) (first-agrees test xs)
 
 module _ {V : Type 0} (xs : List V) where
   behind-agrees : {X : Type 0} (f : X → Option ℕ) (g : X → Option V) → ((x : X) → Agrees xs (f x) (g x)) → (o : Option X)
@@ -70,24 +71,24 @@ module _ {V : Type 0} (xs : List V) where
       or-agrees (f y) (g y) (first_answer f ys) (first_answer g ys) (each y) (answers-agree f g each ys)
 
 module _ (providers : List Provider) (case : Case) where
-  for-agrees : (rule : JwtRule) → Agrees case.verdicts (place_for case rule) (verdict_for case rule)
+  for-agrees : (rule : JwtRule) → Agrees case.verdicts (position_for case rule) (verdict_for case rule)
   for-agrees rule = behind-agrees case.verdicts
       (λ token. position_from (is_answer (question_of rule token)) 0 case.verdicts)
       (λ token. find (is_answer (question_of rule token)) case.verdicts)
       (λ token. position-agrees (is_answer (question_of rule token)) case.verdicts) (token_of case rule)
 
-  by-agrees : (name : List ℕ) → Agrees case.verdicts (place_by providers case name) (verdict_by providers case name)
+  by-agrees : (name : List ℕ) → Agrees case.verdicts (position_by providers case name) (verdict_by providers case name)
   by-agrees name = behind-agrees case.verdicts
-      (λ (provider : Provider). place_for case provider.rule) (λ provider. verdict_for case provider.rule)
+      (λ (provider : Provider). position_for case provider.rule) (λ provider. verdict_for case provider.rule)
       (λ provider. for-agrees provider.rule)
       (provider_named providers name)
 
   -- the place and the verdict of the first provider that holds
   first_verdict : (requirement : Requirement)
-      → Agrees case.verdicts (first_place providers case (names_of requirement))
+      → Agrees case.verdicts (first_position_by providers case (names_of requirement))
       (first_answer (verdict_by providers case) (names_of requirement))
   first_verdict requirement =
-      answers-agree case.verdicts (place_by providers case) (verdict_by providers case) by-agrees (names_of requirement)
+      answers-agree case.verdicts (position_by providers case) (verdict_by providers case) by-agrees (names_of requirement)
 
   any-answers : (names : List (List ℕ))
       → list_any (provider_holds providers case) names ≡ is_some (first_answer (verdict_by providers case) names)
@@ -141,12 +142,12 @@ module _ (jwt : Authentication) (requirement : Requirement) (case : Case) (now :
       ∙ ap (λ (o : Option TokenVerdict). is_some o || may_miss jwt.providers case requirement) e ∙ m in
       rw holds refl
 
-  at_place : (place : ℕ) (v : Option TokenVerdict) → found ≡ v → Agrees case.verdicts (Some place) v → (ran : Ran)
+  at_position : (position : ℕ) (v : Option TokenVerdict) → found ≡ v → Agrees case.verdicts (Some position) v → (ran : FilterStep)
       → decision_of ran.decision ≡ goes_on
-      → ran.after.state ≡ record { request_seen = now.state.request_seen; peer_seen = now.state.peer_seen; verdict = Some place }
+      → ran.after.state ≡ record { request_seen = now.state.request_seen; peer_seen = now.state.peer_seen; verdict = Some position }
       → ran.after.audited ≡ now.audited → StepIs case ran meant
-  at_place place None e h ran d s a = absurd h
-  at_place place (Some v) e h ran d s a = record {
+  at_position position None e h ran d s a = absurd h
+  at_position position (Some v) e h ran d s a = record {
     decision = d ∙ ap (λ (step : Step). step.decision) (sym (meant-found v e));
     stands = record {
       seen = ap (seen_of case) s
@@ -156,7 +157,7 @@ module _ (jwt : Authentication) (requirement : Requirement) (case : Case) (now :
     };
   }
 
-  nowhere : (v : Option TokenVerdict) → found ≡ v → Agrees case.verdicts None v → (ran : Ran)
+  nowhere : (v : Option TokenVerdict) → found ≡ v → Agrees case.verdicts None v → (ran : FilterStep)
       → decision_of ran.decision ≡ (if may_miss jwt.providers case requirement then goes_on else unauthenticated)
       → ran.after ≡ now → StepIs case ran meant
   nowhere (Some v) e h ran d s = absurd h
@@ -171,14 +172,14 @@ module _ (jwt : Authentication) (requirement : Requirement) (case : Case) (now :
       }
 
   -- where the verdict is found, and where it isn't
-  pub held : (place : ℕ) → Some place ≡ first_place jwt.providers case (names_of requirement) → (ran : Ran)
+  pub held : (position : ℕ) → Some position ≡ first_position_by jwt.providers case (names_of requirement) → (ran : FilterStep)
       → decision_of ran.decision ≡ goes_on
-      → ran.after.state ≡ record { request_seen = now.state.request_seen; peer_seen = now.state.peer_seen; verdict = Some place }
+      → ran.after.state ≡ record { request_seen = now.state.request_seen; peer_seen = now.state.peer_seen; verdict = Some position }
       → ran.after.audited ≡ now.audited → StepIs case ran meant
-  held place p = at_place place found refl
+  held position p = at_position position found refl
       (subst (λ (o : Option ℕ). Agrees case.verdicts o found) (sym p) (first_verdict jwt.providers case requirement))
 
-  pub not_held : None ≡ first_place jwt.providers case (names_of requirement) → (ran : Ran)
+  pub not_held : None ≡ first_position_by jwt.providers case (names_of requirement) → (ran : FilterStep)
       → decision_of ran.decision ≡ (if may_miss jwt.providers case requirement then goes_on else unauthenticated)
       → ran.after ≡ now → StepIs case ran meant
   not_held p =

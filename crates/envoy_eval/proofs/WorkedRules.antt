@@ -17,7 +17,8 @@ use Rattle.envoy_types.specs.declared.principal.PrincipalLeaf.{PrincipalLeaf}
 holds-any : {L : Type 0} (p : L → Bool) → tree_holds p (tree_of Any) ≡ true
 unfolding out-Node denote.Hole.Carrier.out
 holds-any {L} p =
-    fold-roll-Tree L Bool Bool (node_holds p) (λ t. t.node) (record { node = Any }) ∙ fold_out-Node L Bool Bool (node_holds p) (λ t. t.node) Any
+    fold-roll-Tree L Bool Bool (node_holds p) (λ t. t.node) (record { node = Any })
+    ∙ fold_out-Node L Bool Bool (node_holds p) (λ t. t.node) Any
 
 -- rules of one policy, for everything
 abbrev pub rules_named : List ℕ → RbacAction → Rules

@@ -12,31 +12,31 @@ use Rattle.envoy_types.specs.declared.access.Rbac.{Rbac}
 use Rattle.envoy_types.specs.declared.access.RbacAction.{RbacAction}
 use Rattle.envoy_types.specs.declared.access.RbacAction.TheVariants.{Allow, Deny, Log}
 use Rattle.envoy_eval.specs.declared.hits.Hit.{Hit}
-use Rattle.envoy_eval.specs.declared.hits.Told.{Told}
+use Rattle.envoy_eval.specs.declared.hits.StageHits.{StageHits}
 
 -- no hit of any stage
-abbrev pub nothing_told : Told
-nothing_told = record { custom = None; audit = None; deny = None; allow = None }
+abbrev pub no_hits : StageHits
+no_hits = record { custom = None; audit = None; deny = None; allow = None }
 
 -- of two hits of a stage the first
-abbrev pub first_told : Told → Told → Told
-first_told first later = record {
+abbrev pub first_hits : StageHits → StageHits → StageHits
+first_hits first later = record {
   custom = option_or first.custom later.custom;
   audit = option_or first.audit later.audit;
   deny = option_or first.deny later.deny;
   allow = option_or first.allow later.allow;
 }
 
--- the hit of the policy at a position, in the filter at a place
+-- the hit of the policy at a position, in the filter that stands there in its chain
 abbrev pub hit_at : ℕ → Option ℕ → Option Hit
-hit_at place position = option_map (λ policy. record { filter = place; policy = policy }) position
+hit_at at position = option_map (λ policy. record { filter = at; policy = policy }) position
 
 -- the policy that rules come down to, where there are rules and one holds
 abbrev pub held : Option Rules → Case → Seen → Option ℕ
 held None case seen = None
 held (Some rules) case seen = effective rules case seen
 
--- Istio gives the policies by which DENY rules send requests to an external authorizer names with this front.
+-- the policy has the front of the names by which Istio sends requests to an external authorizer
 abbrev pub names_authorizer : Rules → ℕ → Bool
 names_authorizer rules position =
     holds_of (λ policy. is_prefix (codes "istio-ext-authz-") policy.name) (slice_get rules.policies position)
@@ -47,21 +47,21 @@ own_position rules None = None
 own_position rules (Some position) = if names_authorizer rules position then None else Some position
 
 -- the hit of shadow rules alone
-abbrev pub told_by_shadow : Option Hit → Told
-told_by_shadow custom = record { custom = custom; audit = None; deny = None; allow = None }
+abbrev pub hits_of_shadow : Option Hit → StageHits
+hits_of_shadow custom = record { custom = custom; audit = None; deny = None; allow = None }
 
 -- beside it, the rules' policy that holds is a hit of the stage of their action
-abbrev pub told_by_action : RbacAction → ℕ → Rules → Option ℕ → Option Hit → Told
-told_by_action Allow place rules position custom = record { custom = custom; audit = None; deny = None; allow = hit_at place position }
-told_by_action Deny place rules position custom =
-    record { custom = custom; audit = None; deny = hit_at place (own_position rules position); allow = None }
-told_by_action Log place rules position custom = record { custom = custom; audit = hit_at place position; deny = None; allow = None }
+abbrev pub hits_of_action : RbacAction → ℕ → Rules → Option ℕ → Option Hit → StageHits
+hits_of_action Allow at rules position custom = record { custom = custom; audit = None; deny = None; allow = hit_at at position }
+hits_of_action Deny at rules position custom =
+    record { custom = custom; audit = None; deny = hit_at at (own_position rules position); allow = None }
+hits_of_action Log at rules position custom = record { custom = custom; audit = hit_at at position; deny = None; allow = None }
 
 -- rules that are absent have no hit
-abbrev pub told_by_rules : ℕ → Option Rules → Case → Seen → Option Hit → Told
-told_by_rules place None case seen custom = told_by_shadow custom
-told_by_rules place (Some rules) case seen custom = told_by_action rules.action place rules (effective rules case seen) custom
+abbrev pub hits_of_rules : ℕ → Option Rules → Case → Seen → Option Hit → StageHits
+hits_of_rules at None case seen custom = hits_of_shadow custom
+hits_of_rules at (Some rules) case seen custom = hits_of_action rules.action at rules (effective rules case seen) custom
 
--- the hits of a filter at a place: that of its shadow rules, and that of its rules
-abbrev pub told_by_rbac : ℕ → Case → Rbac → Seen → Told
-told_by_rbac place case rbac seen = told_by_rules place rbac.rules case seen (hit_at place (held rbac.shadow case seen))
+-- the hits of a filter: that of its shadow rules, and that of its rules
+abbrev pub hits_of_rbac : ℕ → Case → Rbac → Seen → StageHits
+hits_of_rbac at case rbac seen = hits_of_rules at rbac.rules case seen (hit_at at (held rbac.shadow case seen))

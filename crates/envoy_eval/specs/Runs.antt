@@ -5,8 +5,8 @@ use Rattle.mesh_policy.specs.declared.case.Case.{Case}
 use Rattle.envoy_types.specs.Run.{Decision, RunState, Step, goes_on, refuses, unauthenticated}
 use Rattle.envoy_types.specs.State.{seen_of}
 use Rattle.envoy_types.specs.declared.state.State.{State}
-use Rattle.envoy_eval.specs.Hits.{first_told, nothing_told}
-use Rattle.envoy_eval.specs.declared.hits.Told.{Told}
+use Rattle.envoy_eval.specs.Hits.{first_hits, no_hits}
+use Rattle.envoy_eval.specs.declared.hits.StageHits.{StageHits}
 
 -- before the first filter nothing is marked, and no shadow rules have told a name
 abbrev pub begin : Case → State → RunState
@@ -24,14 +24,14 @@ is_going unauthenticated = false
 is_going refuses = false
 
 -- what the filters behind one have hit: those that no refusal keeps from running
-abbrev pub unless_refused : Decision → Told → Told
-unless_refused goes_on told = told
-unless_refused unauthenticated told = nothing_told
-unless_refused refuses told = nothing_told
+abbrev pub unless_refused : Decision → StageHits → StageHits
+unless_refused goes_on hits = hits
+unless_refused unauthenticated hits = no_hits
+unless_refused refuses hits = no_hits
 
--- The hits of the filters that ran, from a place on. A filter that refuses ran too. The first hit of each stage counts.
-abbrev pub told_by : {F : Type 0} → (F → RunState → Step) → (ℕ → F → Seen → Told) → ℕ → List F → RunState → Told
-told_by run told place [] state = nothing_told
-told_by run told place (filter ∷ filters) state =
-    first_told (told place filter state.seen)
-    (unless_refused (run filter state).decision (told_by run told (place + 1) filters (run filter state).state))
+-- The hits of the filters that ran, which are counted from a number. A filter that refuses ran too. The first hit of each stage counts.
+abbrev pub run_hits : {F : Type 0} → (F → RunState → Step) → (ℕ → F → Seen → StageHits) → ℕ → List F → RunState → StageHits
+run_hits run hits at [] state = no_hits
+run_hits run hits at (filter ∷ filters) state =
+    first_hits (hits at filter state.seen)
+    (unless_refused (run filter state).decision (run_hits run hits (at + 1) filters (run filter state).state))

@@ -6,7 +6,7 @@ use Rattle.envoy_types.specs.Run.{Names, RunState}
 use Rattle.envoy_types.specs.State.{seen_of}
 use Rattle.envoy_eval.specs.declared.steps.Decision.{Decision}
 use Rattle.envoy_eval.specs.declared.steps.Decision.TheVariants.{GoesOn, Unauthenticated, Refuses}
-use Rattle.envoy_eval.specs.declared.steps.Ran.{Ran}
+use Rattle.envoy_eval.specs.declared.steps.FilterStep.{FilterStep}
 use Rattle.envoy_eval.specs.declared.steps.Standing.{Standing}
 
 -- the decision as the meaning has it
@@ -25,6 +25,6 @@ pub record Stands (case : Case) (now : Standing) (meant : RunState) : Type 0 whe
   pub audited : now.audited ≡ meant.audited
 
 -- a filter decides this, and leaves this
-pub record StepIs (case : Case) (ran : Ran) (meant : run.Step) : Type 0 where
+pub record StepIs (case : Case) (ran : FilterStep) (meant : run.Step) : Type 0 where
   pub decision : decision_of ran.decision ≡ meant.decision
   pub stands : Stands case ran.after meant.state

@@ -11,16 +11,16 @@ use Rattle.envoy_types.specs.declared.jwt.Requirement.{Requirement}
 use Rattle.envoy_types.specs.declared.jwt.Requirement.TheVariants.{One, AnyOf}
 
 -- where the case first lists the question of a rule
-abbrev pub place_for : Case → JwtRule → Option ℕ
-place_for case rule = option_and_then (λ token. position_from (is_answer (question_of rule token)) 0 case.verdicts) (token_of case rule)
+abbrev pub position_for : Case → JwtRule → Option ℕ
+position_for case rule = option_and_then (λ token. position_from (is_answer (question_of rule token)) 0 case.verdicts) (token_of case rule)
 
 -- the same of the provider of a name
-abbrev pub place_by : List Provider → Case → List ℕ → Option ℕ
-place_by providers case name = option_and_then (λ provider. place_for case provider.rule) (provider_named providers name)
+abbrev pub position_by : List Provider → Case → List ℕ → Option ℕ
+position_by providers case name = option_and_then (λ provider. position_for case provider.rule) (provider_named providers name)
 
 -- and of the first of several that finds one
-abbrev pub first_place : List Provider → Case → List (List ℕ) → Option ℕ
-first_place providers case names = first_answer (place_by providers case) names
+abbrev pub first_position_by : List Provider → Case → List (List ℕ) → Option ℕ
+first_position_by providers case names = first_answer (position_by providers case) names
 
 -- with `allow_missing`, none of the providers finds a token
 abbrev pub may_miss : List Provider → Case → Requirement → Bool

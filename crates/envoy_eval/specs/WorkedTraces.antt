@@ -9,21 +9,21 @@ use Rattle.envoy_types.specs.ListenerVerdict.{unmarked}
 use Rattle.envoy_types.specs.WorkedListeners as worked
 use Rattle.envoy_types.specs.declared.access.RbacAction.TheVariants.{Deny}
 use Rattle.envoy_types.specs.declared.chains.HttpFilter.{HttpFilter}
-use Rattle.envoy_eval.specs.Trace.{hits}
+use Rattle.envoy_eval.specs.Trace.{trace_of}
 use Rattle.envoy_eval.specs.declared.hits.Hit.{Hit}
 use Rattle.envoy_eval.specs.declared.hits.Hits.{Hits}
 
 -- the trace of a request through an HTTP chain with these filters
 abbrev pub http : List HttpFilter → Hits
-http filters = hits (worked.listener (worked.chain None None [] false (worked.http filters) ∷ [])) worked.get
+http filters = trace_of (worked.listener (worked.chain None None [] false (worked.http filters) ∷ [])) worked.get
 
--- the first policy of the filter at a place
+-- the first policy of a filter
 abbrev pub at : ℕ → Hit
-at place = record { filter = place; policy = 0 }
+at filter = record { filter = filter; policy = 0 }
 
 -- these hits, in the first chain
-abbrev pub told : (custom audit deny allow : Option Hit) → Verdict → Hits
-told custom audit deny allow verdict =
+abbrev pub traced : (custom audit deny allow : Option Hit) → Verdict → Hits
+traced custom audit deny allow verdict =
     record { chain = Some 0; custom = custom; audit = audit; deny = deny; allow = allow; verdict = verdict }
 
 -- a connection that no chain is for

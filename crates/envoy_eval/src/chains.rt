@@ -72,10 +72,10 @@ fn name_left<'a>(
     text_at(names, first_agreed(chains, port, transport, names))
 }
 
-fn text_at(names: &[Text], place: usize) -> Option<&str>
-    ensures { option_copied result ≡ slice_get names.now place }
+fn text_at(names: &[Text], position: usize) -> Option<&str>
+    ensures { option_copied result ≡ slice_get names.now position }
 {
-    match names.get(place) {
+    match names.get(position) {
         None => None,
         Some(name) => Some(name.as_str()),
     }

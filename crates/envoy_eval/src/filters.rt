@@ -3,8 +3,8 @@ ghost use Rattle.std.specs.Prelude.{◌≡◌, ℕ};
 ghost use Rattle.mesh_policy.specs.Attributes.{Seen};
 ghost use Rattle.mesh_policy.specs.declared.case.Case.{Case};
 ghost use Rattle.envoy_types.specs.Run.{RunState, Step};
-ghost use Rattle.envoy_eval.specs.Filters.{run_part, told_of_part};
-ghost use Rattle.envoy_eval.specs.declared.hits.Told.{Told};
+ghost use Rattle.envoy_eval.specs.Filters.{run_part, hits_of_part};
+ghost use Rattle.envoy_eval.specs.declared.hits.StageHits.{StageHits};
 
 use envoy_types::{ExtAuthz, HttpFilter, JwtAuthn, NetworkFilter, Rbac};
 
@@ -19,20 +19,20 @@ pub(crate) enum Part<'a> {
 pub(crate) trait Filter {
     ghost run: { Case → Self → RunState → Step };
 
-    ghost told: { ℕ → Case → Self → Seen → Told };
+    ghost hits: { ℕ → Case → Self → Seen → StageHits };
 
     fn part(&self) -> Part<'_>
         ensures runs { (case : Case) (before : RunState) → run case self.now before ≡ run_part case result before }
-        ensures tells { (place : ℕ) (case : Case) (seen : Seen) → told place case self.now seen ≡ told_of_part place case result seen };
+        ensures tells { (at : ℕ) (case : Case) (seen : Seen) → hits at case self.now seen ≡ hits_of_part at case result seen };
 }
 
 impl Filter for NetworkFilter {
     ghost use Rattle.envoy_types.specs.Run.{run_network};
-    ghost use Rattle.envoy_eval.specs.Filters.{told_of_network};
+    ghost use Rattle.envoy_eval.specs.Filters.{hits_of_network};
 
     ghost run = { run_network };
 
-    ghost told = { told_of_network };
+    ghost hits = { hits_of_network };
 
     fn part(&self) -> Part<'_> {
         match self {
@@ -44,11 +44,11 @@ impl Filter for NetworkFilter {
 
 impl Filter for HttpFilter {
     ghost use Rattle.envoy_types.specs.Run.{run_http};
-    ghost use Rattle.envoy_eval.specs.Filters.{told_of_http};
+    ghost use Rattle.envoy_eval.specs.Filters.{hits_of_http};
 
     ghost run = { run_http };
 
-    ghost told = { told_of_http };
+    ghost hits = { hits_of_http };
 
     fn part(&self) -> Part<'_> {
         match self {

@@ -3,7 +3,7 @@ ghost use Rattle.std.specs.Prelude.{◌≡◌};
 ghost use Rattle.std.specs.Option.{option_or};
 ghost use Rattle.envoy_types.specs.Access.{Rules, name_at};
 ghost use Rattle.envoy_types.specs.State.{holds_of};
-ghost use Rattle.envoy_eval.specs.Hits as hits;
+ghost use Rattle.envoy_eval.specs.Hits as stages;
 
 use envoy_types::{RbacAction, RbacRules};
 use mesh_policy::Verdict;
@@ -36,7 +36,7 @@ pub struct Hit {
 
 /// The first hit of each stage.
 #[derive(Clone, Copy)]
-pub(crate) struct Told {
+pub(crate) struct StageHits {
     pub(crate) custom: Option<Hit>,
     pub(crate) audit: Option<Hit>,
     pub(crate) deny: Option<Hit>,
@@ -46,10 +46,10 @@ pub(crate) struct Told {
 /// What the names of policies begin with that stand in for an external authorizer.
 const AUTHORIZER_FRONT: &str = "istio-ext-authz-";
 
-pub(crate) fn nothing_told() -> Told
-    ensures { result ≡ hits.nothing_told }
+pub(crate) fn no_hits() -> StageHits
+    ensures { result ≡ stages.no_hits }
 {
-    Told {
+    StageHits {
         custom: None,
         audit: None,
         deny: None,
@@ -57,11 +57,11 @@ pub(crate) fn nothing_told() -> Told
     }
 }
 
-/// What was told first.
-pub(crate) fn first_told(first: Told, later: Told) -> Told
-    ensures { result ≡ hits.first_told first later }
+/// Of each stage the first hit.
+pub(crate) fn first_hits(first: StageHits, later: StageHits) -> StageHits
+    ensures { result ≡ stages.first_hits first later }
 {
-    Told {
+    StageHits {
         custom: first_hit(first.custom, later.custom),
         audit: first_hit(first.audit, later.audit),
         deny: first_hit(first.deny, later.deny),
@@ -79,23 +79,20 @@ fn first_hit(first: Option<Hit>, later: Option<Hit>) -> Option<Hit>
 }
 
 /// The hit of a policy at a position, if there is one.
-pub(crate) fn hit_at(place: usize, position: Option<usize>) -> Option<Hit>
-    ensures { result ≡ hits.hit_at place position }
+pub(crate) fn hit_at(at: usize, position: Option<usize>) -> Option<Hit>
+    ensures { result ≡ stages.hit_at at position }
 {
     match position {
         None => None,
-        Some(policy) => Some(Hit {
-            filter: place,
-            policy,
-        }),
+        Some(policy) => Some(Hit { filter: at, policy }),
     }
 }
 
 /// The hit of shadow rules alone.
-pub(crate) fn told_by_shadow(custom: Option<Hit>) -> Told
-    ensures { result ≡ hits.told_by_shadow custom }
+pub(crate) fn hits_of_shadow(custom: Option<Hit>) -> StageHits
+    ensures { result ≡ stages.hits_of_shadow custom }
 {
-    Told {
+    StageHits {
         custom,
         audit: None,
         deny: None,
@@ -104,30 +101,30 @@ pub(crate) fn told_by_shadow(custom: Option<Hit>) -> Told
 }
 
 /// That hit, and the hit of rules of which the policy at a position holds.
-pub(crate) fn told_by_action(
-    place: usize,
+pub(crate) fn hits_of_action(
+    at: usize,
     rules: &RbacRules,
     position: Option<usize>,
     custom: Option<Hit>,
-) -> Told
-    ensures { result ≡ hits.told_by_action rules.now.action place rules.now position custom }
+) -> StageHits
+    ensures { result ≡ stages.hits_of_action rules.now.action at rules.now position custom }
 {
     match rules.action {
-        RbacAction::Allow => Told {
+        RbacAction::Allow => StageHits {
             custom,
             audit: None,
             deny: None,
-            allow: hit_at(place, position),
+            allow: hit_at(at, position),
         },
-        RbacAction::Deny => Told {
+        RbacAction::Deny => StageHits {
             custom,
             audit: None,
-            deny: hit_at(place, own_position(rules, position)),
+            deny: hit_at(at, own_position(rules, position)),
             allow: None,
         },
-        RbacAction::Log => Told {
+        RbacAction::Log => StageHits {
             custom,
-            audit: hit_at(place, position),
+            audit: hit_at(at, position),
             deny: None,
             allow: None,
         },
@@ -136,7 +133,7 @@ pub(crate) fn told_by_action(
 
 // the position, unless the policy there stands in for an authorizer
 fn own_position(rules: &RbacRules, position: Option<usize>) -> Option<usize>
-    ensures { result ≡ hits.own_position rules.now position }
+    ensures { result ≡ stages.own_position rules.now position }
 {
     match position {
         None => None,
@@ -151,7 +148,7 @@ fn own_position(rules: &RbacRules, position: Option<usize>) -> Option<usize>
 }
 
 fn names_authorizer(rules: &RbacRules, position: usize) -> bool
-    ensures { result ≡ hits.names_authorizer rules.now position }
+    ensures { result ≡ stages.names_authorizer rules.now position }
 {
     match rules.policies.get(position) {
         None => false,

@@ -8,9 +8,9 @@ ghost use Rattle.envoy_eval.specs.Steps.{decision_of};
 ghost use Rattle.envoy_eval.specs.Trace as trace;
 
 use crate::chains::choose;
-use crate::hits::{Hits, Told, nothing_told};
+use crate::hits::{Hits, StageHits, no_hits};
 use crate::run::run_filters;
-use crate::steps::{Decision, Ran};
+use crate::steps::{Decision, FilterStep};
 use envoy_types::{ChainBody, FilterChain, HttpFilter, Listener, State};
 use mesh_policy::{Case, Outcome, Tls, Verdict};
 
@@ -18,11 +18,11 @@ use mesh_policy::{Case, Outcome, Tls, Verdict};
 #[derive(Clone, Copy)]
 struct Judged {
     verdict: Verdict,
-    told: Told,
+    hits: StageHits,
 }
 
 /// The verdict of a listener for a case, with the audit mark.
-#[tactic(auto, unfolding(crate::specs::Trace::hits))]
+#[tactic(auto, unfolding(crate::specs::Trace::trace_of))]
 pub fn judge(listener: &Listener, case: &Case) -> Verdict
     ensures { result ≡ meaning.envoy_verdict listener.now case.now }
 {
@@ -30,18 +30,18 @@ pub fn judge(listener: &Listener, case: &Case) -> Verdict
 }
 
 /// The chain that is chosen, the policies that the filters which ran have hit, and the verdict.
-#[tactic(auto, unfolding(crate::specs::Trace::hits, envoy_types::specs::ListenerVerdict::envoy_verdict))]
+#[tactic(auto, unfolding(crate::specs::Trace::trace_of, envoy_types::specs::ListenerVerdict::envoy_verdict))]
 pub fn trace(listener: &Listener, case: &Case) -> Hits
-    ensures { result ≡ trace.hits listener.now case.now }
+    ensures { result ≡ trace.trace_of listener.now case.now }
 {
     let chain = choose(listener, case);
     let judged = judge_chosen(chain_at(&listener.chains, chain), case);
     Hits {
         chain,
-        custom: judged.told.custom,
-        audit: judged.told.audit,
-        deny: judged.told.deny,
-        allow: judged.told.allow,
+        custom: judged.hits.custom,
+        audit: judged.hits.audit,
+        deny: judged.hits.deny,
+        allow: judged.hits.allow,
         verdict: judged.verdict,
     }
 }
@@ -57,7 +57,7 @@ fn chain_at(chains: &[FilterChain], position: Option<usize>) -> Option<&FilterCh
 
 fn judge_chosen(chain: Option<&FilterChain>, case: &Case) -> Judged
     ensures verdict { result.verdict ≡ meaning.verdict_by (option_copied chain.entry) case.now }
-    ensures told { result.told ≡ trace.told_by_chosen (option_copied chain.entry) case.now }
+    ensures hits { result.hits ≡ trace.chosen_hits (option_copied chain.entry) case.now }
 {
     match chain {
         None => without_run(Outcome::Closed),
@@ -67,7 +67,7 @@ fn judge_chosen(chain: Option<&FilterChain>, case: &Case) -> Judged
 
 fn judge_chain(chain: &FilterChain, case: &Case) -> Judged
     ensures verdict { result.verdict ≡ meaning.chain_verdict chain.now case.now }
-    ensures told { result.told ≡ trace.told_by_chain chain.now case.now }
+    ensures hits { result.hits ≡ trace.chain_hits chain.now case.now }
 {
     if chain.mutual_tls && !shows_peer(case.tls.as_ref()) {
         return without_run(Outcome::Closed);
@@ -86,7 +86,7 @@ fn shows_peer(tls: Option<&Tls>) -> bool
 
 fn judge_body(mutual_tls: bool, body: &ChainBody, case: &Case) -> Judged
     ensures verdict { result.verdict ≡ meaning.body_verdict mutual_tls body.now case.now }
-    ensures told { result.told ≡ trace.told_by_body mutual_tls body.now case.now }
+    ensures hits { result.hits ≡ trace.body_hits mutual_tls body.now case.now }
 {
     match body {
         ChainBody::Tcp { filters, .. } => with_outcome(
@@ -99,7 +99,7 @@ fn judge_body(mutual_tls: bool, body: &ChainBody, case: &Case) -> Judged
 
 fn judge_http(mutual_tls: bool, filters: &[HttpFilter], case: &Case) -> Judged
     ensures verdict { (cluster : List ℕ) → result.verdict ≡ meaning.body_verdict mutual_tls (Http filters.now cluster) case.now }
-    ensures told { result.told ≡ trace.told_by_http mutual_tls filters.now case.now }
+    ensures hits { result.hits ≡ trace.http_hits mutual_tls filters.now case.now }
 {
     if !mutual_tls && case.tls.is_some() {
         return without_run(Outcome::Closed);
@@ -127,29 +127,29 @@ fn start(is_http: bool, mutual_tls: bool) -> State
 // no filter runs
 fn without_run(outcome: Outcome) -> Judged
     ensures verdict { result.verdict ≡ meaning.unmarked outcome }
-    ensures told { result.told ≡ trace.nothing_told }
+    ensures hits { result.hits ≡ trace.no_hits }
 {
     Judged {
         verdict: Verdict {
             outcome,
             audited: false,
         },
-        told: nothing_told(),
+        hits: no_hits(),
     }
 }
 
 // by what the filters have decided, and what a refusal is
-fn with_outcome(refusal: Outcome, ran: Ran) -> Judged
+fn with_outcome(refusal: Outcome, ran: FilterStep) -> Judged
     ensures verdict { result.verdict
         ≡ record { outcome = meaning.outcome_of refusal (decision_of ran.decision); audited = ran.after.audited } }
-    ensures told { result.told ≡ ran.told }
+    ensures hits { result.hits ≡ ran.hits }
 {
     Judged {
         verdict: Verdict {
             outcome: outcome_of(refusal, ran.decision),
             audited: ran.after.audited,
         },
-        told: ran.told,
+        hits: ran.hits,
     }
 }
 

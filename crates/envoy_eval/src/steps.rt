@@ -5,13 +5,13 @@ ghost use Rattle.envoy_types.specs.Access as access;
 ghost use Rattle.envoy_types.specs.Run as run;
 ghost use Rattle.envoy_types.specs.Run.{Names, goes_on, name_of, refuses};
 ghost use Rattle.envoy_types.specs.State.{seen_of};
-ghost use Rattle.envoy_eval.specs.Hits as hits;
+ghost use Rattle.envoy_eval.specs.Hits as stages;
 ghost use Rattle.envoy_eval.specs.Steps.{StepIs, decision_of, standing};
 
 use crate::access::effective;
 use crate::authz::{is_asked, service_passes};
-use crate::hits::{Hit, Told, hit_at, nothing_told, told_by_action, told_by_shadow};
-use crate::tokens::{first_place, may_miss, required};
+use crate::hits::{Hit, StageHits, hit_at, hits_of_action, hits_of_shadow, no_hits};
+use crate::tokens::{first_position_by, may_miss, required};
 use envoy_types::{ExtAuthz, JwtAuthn, Rbac, RbacAction, RbacRules, Requirement, State};
 use mesh_policy::Case;
 
@@ -32,10 +32,10 @@ pub(crate) enum Decision {
 
 /// What a filter decides, what stands behind it, and what it hits.
 #[derive(Clone, Copy)]
-pub(crate) struct Ran {
+pub(crate) struct FilterStep {
     pub(crate) decision: Decision,
     pub(crate) after: Standing,
-    pub(crate) told: Told,
+    pub(crate) hits: StageHits,
 }
 
 fn decided(passes: bool) -> Decision
@@ -50,35 +50,35 @@ fn decided(passes: bool) -> Decision
 
 // ---- tokens
 
-pub(crate) fn run_jwt(jwt: &JwtAuthn, case: &Case, now: Standing) -> Ran
+pub(crate) fn run_jwt(jwt: &JwtAuthn, case: &Case, now: Standing) -> FilterStep
     ensures step { (names : Names) → StepIs case.now result (run.run_jwt jwt.now case.now (standing case.now now names)) }
-    ensures told { result.told ≡ hits.nothing_told }
+    ensures hits { result.hits ≡ stages.no_hits }
 {
     match required(jwt, case) {
-        None => Ran {
+        None => FilterStep {
             decision: Decision::GoesOn,
             after: now,
-            told: nothing_told(),
+            hits: no_hits(),
         },
         Some(requirement) => run_required(jwt, requirement, case, now),
     }
 }
 
-fn run_required(jwt: &JwtAuthn, requirement: &Requirement, case: &Case, now: Standing) -> Ran
+fn run_required(jwt: &JwtAuthn, requirement: &Requirement, case: &Case, now: Standing) -> FilterStep
     ensures step { (names : Names)
         → StepIs case.now result (run.run_required jwt.now case.now (standing case.now now names) (Some requirement.now)) }
-    ensures told { result.told ≡ hits.nothing_told }
+    ensures hits { result.hits ≡ stages.no_hits }
 {
-    match first_place(&jwt.providers, requirement, case) {
-        Some(place) => Ran {
+    match first_position_by(&jwt.providers, requirement, case) {
+        Some(at) => FilterStep {
             decision: Decision::GoesOn,
-            after: with_verdict(now, place),
-            told: nothing_told(),
+            after: with_verdict(now, at),
+            hits: no_hits(),
         },
-        None => Ran {
+        None => FilterStep {
             decision: without_verdict(may_miss(&jwt.providers, requirement, case)),
             after: now,
-            told: nothing_told(),
+            hits: no_hits(),
         },
     }
 }
@@ -93,16 +93,16 @@ fn without_verdict(missing: bool) -> Decision
     }
 }
 
-// with the claims of the verdict at a place
-fn with_verdict(now: Standing, place: usize) -> Standing
-    ensures state { result.state ≡ record { request_seen = now.state.request_seen; peer_seen = now.state.peer_seen; verdict = Some place } }
+// with the claims of the verdict at a position
+fn with_verdict(now: Standing, at: usize) -> Standing
+    ensures state { result.state ≡ record { request_seen = now.state.request_seen; peer_seen = now.state.peer_seen; verdict = Some at } }
     ensures audited { result.audited ≡ now.audited }
 {
     Standing {
         state: State {
             request_seen: now.state.request_seen,
             peer_seen: now.state.peer_seen,
-            verdict: Some(place),
+            verdict: Some(at),
         },
         audited: now.audited,
     }
@@ -110,30 +110,24 @@ fn with_verdict(now: Standing, place: usize) -> Standing
 
 // ---- access control
 
-pub(crate) fn run_rbac(place: usize, rbac: &Rbac, case: &Case, now: Standing) -> Ran
+pub(crate) fn run_rbac(at: usize, rbac: &Rbac, case: &Case, now: Standing) -> FilterStep
     ensures step { (names : Names) → StepIs case.now result (run.run_rbac rbac.now case.now (standing case.now now names)) }
-    ensures told { result.told ≡ hits.told_by_rbac place case.now rbac.now (seen_of case.now now.state) }
+    ensures hits { result.hits ≡ stages.hits_of_rbac at case.now rbac.now (seen_of case.now now.state) }
 {
-    let custom = hit_at(place, held(rbac.shadow.as_ref(), case, &now.state));
+    let custom = hit_at(at, held(rbac.shadow.as_ref(), case, &now.state));
     match &rbac.rules {
-        None => Ran {
+        None => FilterStep {
             decision: Decision::GoesOn,
             after: now,
-            told: told_by_shadow(custom),
+            hits: hits_of_shadow(custom),
         },
-        Some(rules) => run_rules(
-            place,
-            rules,
-            effective(rules, case, &now.state),
-            custom,
-            now,
-        ),
+        Some(rules) => run_rules(at, rules, effective(rules, case, &now.state), custom, now),
     }
 }
 
 /// The position of the policy of rules that holds, where there are rules and one does.
 pub(crate) fn held(rules: Option<&RbacRules>, case: &Case, state: &State) -> Option<usize>
-    ensures { result ≡ hits.held (option_copied rules.entry) case.now (seen_of case.now state.now) }
+    ensures { result ≡ stages.held (option_copied rules.entry) case.now (seen_of case.now state.now) }
 {
     match rules {
         None => None,
@@ -142,25 +136,25 @@ pub(crate) fn held(rules: Option<&RbacRules>, case: &Case, state: &State) -> Opt
 }
 
 fn run_rules(
-    place: usize,
+    at: usize,
     rules: &RbacRules,
     position: Option<usize>,
     custom: Option<Hit>,
     now: Standing,
-) -> Ran
+) -> FilterStep
     ensures decision { decision_of result.decision
         ≡ (if access.action_passes rules.now.action (is_some position) then goes_on else refuses) }
     ensures state { result.after.state ≡ now.state }
     ensures audited { result.after.audited ≡ (now.audited || access.action_marks rules.now.action (is_some position)) }
-    ensures told { result.told ≡ hits.told_by_action rules.now.action place rules.now position custom }
+    ensures hits { result.hits ≡ stages.hits_of_action rules.now.action at rules.now position custom }
 {
-    Ran {
+    FilterStep {
         decision: decided(passes(rules.action, position.is_some())),
         after: Standing {
             state: now.state,
             audited: now.audited || marks(rules.action, position.is_some()),
         },
-        told: told_by_action(place, rules, position, custom),
+        hits: hits_of_action(at, rules, position, custom),
     }
 }
 
@@ -186,14 +180,19 @@ fn marks(action: RbacAction, holds: bool) -> bool
 // ---- external authorizers
 
 /// The name is that which the filters before it have told at its key.
-pub(crate) fn run_authz(filter: &ExtAuthz, name: Option<&str>, case: &Case, now: Standing) -> Ran
+pub(crate) fn run_authz(
+    filter: &ExtAuthz,
+    name: Option<&str>,
+    case: &Case,
+    now: Standing,
+) -> FilterStep
     ensures step { (names : Names) → option_copied name.entry ≡ name_of filter.now.enabled_key names
         → StepIs case.now result (run.run_authz filter.now case.now (standing case.now now names)) }
-    ensures told { result.told ≡ hits.nothing_told }
+    ensures hits { result.hits ≡ stages.no_hits }
 {
-    Ran {
+    FilterStep {
         decision: decided(!is_asked(filter, name) || service_passes(filter, case)),
         after: now,
-        told: nothing_told(),
+        hits: no_hits(),
     }
 }

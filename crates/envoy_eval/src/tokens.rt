@@ -7,7 +7,7 @@ ghost use Rattle.mesh_policy.specs.Authenticated as authenticated;
 ghost use Rattle.mesh_policy.specs.Lists.{first_answer};
 ghost use Rattle.mesh_policy.specs.Token.{token_at};
 ghost use Rattle.envoy_types.specs.Jwt as jwt;
-ghost use Rattle.envoy_eval.specs.Tokens as places;
+ghost use Rattle.envoy_eval.specs.Tokens as tokens;
 
 use envoy_types::{JwtAuthn, JwtCheck, JwtProvider, Requirement};
 use mesh_policy::{Case, JwtRule, Keys, Request, TokenPlace, TokenVerdict, find_token};
@@ -39,25 +39,25 @@ fn rule_of<'a>(rules: &'a [JwtCheck], path: &str) -> Option<&'a JwtCheck>
 }
 
 /// Where the case lists the valid token of the first provider of a requirement that holds.
-pub(crate) fn first_place(
+pub(crate) fn first_position_by(
     providers: &[JwtProvider],
     requirement: &Requirement,
     case: &Case,
 ) -> Option<usize>
-    ensures { result ≡ places.first_place providers.now case.now (jwt.names_of requirement.now) }
+    ensures { result ≡ tokens.first_position_by providers.now case.now (jwt.names_of requirement.now) }
 {
     match requirement {
-        Requirement::One(name) => place_by(providers, case, name),
+        Requirement::One(name) => position_by(providers, case, name),
         Requirement::AnyOf { names, .. } => first_of(providers, case, names),
     }
 }
 
 fn first_of(providers: &[JwtProvider], case: &Case, names: &[Text]) -> Option<usize>
-    ensures { result ≡ places.first_place providers.now case.now names.now }
+    ensures { result ≡ tokens.first_position_by providers.now case.now names.now }
 {
     for name in names {
-        if let Some(place) = place_by(providers, case, name) {
-            return Some(place);
+        if let Some(position) = position_by(providers, case, name) {
+            return Some(position);
         }
     }
     None
@@ -65,7 +65,7 @@ fn first_of(providers: &[JwtProvider], case: &Case, names: &[Text]) -> Option<us
 
 /// Whether a requirement is met by a request in which none of its providers finds a token.
 pub(crate) fn may_miss(providers: &[JwtProvider], requirement: &Requirement, case: &Case) -> bool
-    ensures { result ≡ places.may_miss providers.now case.now requirement.now }
+    ensures { result ≡ tokens.may_miss providers.now case.now requirement.now }
 {
     match requirement {
         Requirement::One(_) => false,
@@ -101,26 +101,26 @@ fn has_token(providers: &[JwtProvider], case: &Case, name: &str) -> bool
     }
 }
 
-fn place_by(providers: &[JwtProvider], case: &Case, name: &str) -> Option<usize>
-    ensures { result ≡ places.place_by providers.now case.now name.now }
+fn position_by(providers: &[JwtProvider], case: &Case, name: &str) -> Option<usize>
+    ensures { result ≡ tokens.position_by providers.now case.now name.now }
 {
     match provider_named(providers, name) {
         None => None,
-        Some(provider) => place_for(case, &provider.rule),
+        Some(provider) => position_for(case, &provider.rule),
     }
 }
 
 // where the case answers the question of a rule
-fn place_for(case: &Case, rule: &JwtRule) -> Option<usize>
-    ensures { result ≡ places.place_for case.now rule.now }
+fn position_for(case: &Case, rule: &JwtRule) -> Option<usize>
+    ensures { result ≡ tokens.position_for case.now rule.now }
 {
     match token_of(case, rule) {
         None => None,
-        Some(token) => place_of_answer(&case.verdicts, rule, token),
+        Some(token) => position_of_answer(&case.verdicts, rule, token),
     }
 }
 
-fn place_of_answer(verdicts: &[TokenVerdict], rule: &JwtRule, token: &str) -> Option<usize>
+fn position_of_answer(verdicts: &[TokenVerdict], rule: &JwtRule, token: &str) -> Option<usize>
     ensures { result ≡ position_from (authenticated.is_answer (authenticated.question_of rule.now token.now)) 0 verdicts.now }
 {
     verdicts

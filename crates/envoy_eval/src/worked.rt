@@ -6,7 +6,7 @@ ghost use Rattle.envoy_types.specs.WorkedListeners as worked;
 ghost use Rattle.envoy_types.specs.WorkedListeners.{marked};
 ghost use Rattle.envoy_types.specs.declared.access.RbacAction.TheVariants as action;
 ghost use Rattle.envoy_types.specs.declared.chains.HttpFilter.TheVariants as http;
-ghost use Rattle.envoy_eval.specs.Trace.{hits};
+ghost use Rattle.envoy_eval.specs.Trace.{trace_of};
 ghost use Rattle.envoy_eval.specs.WorkedTraces as traces;
 ghost use Rattle.envoy_eval.specs.WorkedTraces.{at};
 
@@ -16,11 +16,11 @@ ghost use Rattle.envoy_eval.specs.WorkedTraces.{at};
 pub fn hits_are_traced()
     ensures refused { traces.http (http.Rbac worked.shadow ∷ http.Rbac (worked.rbac (worked.rules_for_all action.Deny))
         ∷ http.Rbac (worked.rbac (worked.rules_for_all action.Log)) ∷ [])
-        ≡ traces.told (Some (at 0)) None (Some (at 1)) None (unmarked Outcome.Refused403) }
+        ≡ traces.traced (Some (at 0)) None (Some (at 1)) None (unmarked Outcome.Refused403) }
     ensures first { traces.http (http.Rbac (worked.rbac (worked.rules_for_all action.Log))
         ∷ http.Rbac (worked.rbac (worked.rules_for_all action.Log)) ∷ http.Rbac (worked.rbac (worked.rules_for_all action.Allow)) ∷ [])
-        ≡ traces.told None (Some (at 0)) None (Some (at 2)) (marked Outcome.Admitted) }
+        ≡ traces.traced None (Some (at 0)) None (Some (at 2)) (marked Outcome.Admitted) }
     ensures authorizer { traces.http (http.Rbac (worked.rbac traces.for_authorizer) ∷ [])
-        ≡ traces.told None None None None (unmarked Outcome.Refused403) }
-    ensures unmatched { hits worked.one_port (worked.plain 9000) ≡ traces.closed }
+        ≡ traces.traced None None None None (unmarked Outcome.Refused403) }
+    ensures unmatched { trace_of worked.one_port (worked.plain 9000) ≡ traces.closed }
 {}

@@ -4,7 +4,8 @@ use Rattle.std.specs.List.{position_from}
 use Rattle.std.specs.Option.{option_map}
 use Rattle.envoy_types.specs.Access.{first_position}
 
-further : (n : ℕ) (place : Option ℕ) → option_map (λ k. k + (n + 1)) place ≡ option_map (λ k. k + n) (option_map (λ k. k + 1) place)
+further : (n : ℕ) (position : Option ℕ)
+    → option_map (λ k. k + (n + 1)) position ≡ option_map (λ k. k + n) (option_map (λ k. k + 1) position)
 further n None = refl
 further n (Some k) = ap Some (omega arith)
 
@@ -18,7 +19,7 @@ counted test n (x ∷ xs) = at (test x) (counted test (n + 1) xs ∙ further n (
   at true h = ap Some (omega arith)
   at false h = h
 
-from_none : (place : Option ℕ) → option_map (λ k. k + 0) place ≡ place
+from_none : (position : Option ℕ) → option_map (λ k. k + 0) position ≡ position
 from_none None = refl
 from_none (Some k) = ap Some (omega arith)
 

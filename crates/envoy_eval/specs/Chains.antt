@@ -7,15 +7,17 @@ use Rattle.envoy_types.specs.declared.chains.ChainMatch.{ChainMatch}
 use Rattle.envoy_types.specs.declared.chains.FilterChain.{FilterChain}
 use Rattle.envoy_types.specs.declared.chains.Transport.{Transport}
 
--- the chain names this value, or, for none, no value
+-- the chain names this port, or, for none, no port
 abbrev pub has_port : Option ℕ → ChainMatch → Bool
 has_port None matching = is_any_port matching
 has_port (Some port) matching = names_port port matching
 
+-- the same of the transport protocol
 abbrev pub has_transport : Option Transport → ChainMatch → Bool
 has_transport None matching = is_any_transport matching
 has_transport (Some transport) matching = names_transport transport matching
 
+-- and of application protocols, of which it may list several
 abbrev pub has_name : Option (List ℕ) → ChainMatch → Bool
 has_name None matching = is_any_name matching
 has_name (Some name) matching = lists_name name matching

@@ -24,10 +24,12 @@ hits_of_part at case (Jwt jwt) seen = no_hits
 hits_of_part at case (Rbac rbac) seen = hits_of_rbac at case rbac.now seen
 hits_of_part at case (ExtAuthz authz) seen = no_hits
 
+-- the same of a filter of a TCP chain
 abbrev pub hits_of_network : ℕ → Case → NetworkFilter → Seen → StageHits
 hits_of_network at case (network.Rbac rbac) seen = hits_of_rbac at case rbac seen
 hits_of_network at case (network.ExtAuthz authz) seen = no_hits
 
+-- and of one of an HTTP chain
 abbrev pub hits_of_http : ℕ → Case → HttpFilter → Seen → StageHits
 hits_of_http at case (http.Jwt jwt) seen = no_hits
 hits_of_http at case (http.Rbac rbac) seen = hits_of_rbac at case rbac seen

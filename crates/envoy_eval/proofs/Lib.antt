@@ -1,0 +1,8 @@
+pub mod Positions
+pub mod Runs
+pub mod Agreed
+pub mod Held
+pub mod Keys
+pub mod Left
+pub mod Verdicts
+pub mod WorkedRules

@@ -8,6 +8,7 @@ mod call;
 mod copies;
 mod documents;
 mod forms;
+mod judgements;
 mod listener_rules;
 mod listeners;
 mod lists;
@@ -133,6 +134,9 @@ fn of_wholes(alloc: Global, call: &Call) -> Result<Option<String>, Stop> {
         return Ok(Some(answer));
     }
     if let Some(answer) = listeners::answer(alloc, call)? {
+        return Ok(Some(answer));
+    }
+    if let Some(answer) = judgements::answer(alloc, call)? {
         return Ok(Some(answer));
     }
     match call.name {

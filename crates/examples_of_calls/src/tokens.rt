@@ -33,19 +33,32 @@ fn place_of(alloc: Global, v: &Value) -> Result<TokenPlace, Stop> {
     })
 }
 
-// `{"path": TEXT, "headers": [[NAME, VALUE], ..]}`.
-fn request_of(alloc: Global, v: &Value) -> Result<Request, Stop> {
-    let listed = items_of(v.get("headers").ok_or(Stop::Arguments)?)?;
-    let mut headers = List::new(alloc);
-    for pair in listed {
-        headers.push(header_of(alloc, pair)?)?;
-    }
+/// `{"path": TEXT, "method": TEXT, "headers": [[NAME, VALUE], ..]}`; a GET, and without headers, where these are absent.
+pub fn request_of(alloc: Global, v: &Value) -> Result<Request, Stop> {
     Ok(Request {
-        method: Text::of(alloc, "GET")?,
+        method: Text::of(alloc, method_in(v)?)?,
         path: Text::of(alloc, text_in(v, "path")?)?,
         authority: None,
-        headers,
+        headers: headers_in(alloc, v)?,
     })
+}
+
+fn method_in(v: &Value) -> Result<&str, Stop> {
+    match v.get("method") {
+        None => Ok("GET"),
+        Some(method) => text_of(method),
+    }
+}
+
+fn headers_in(alloc: Global, v: &Value) -> Result<List<Header>, Stop> {
+    let mut headers = List::new(alloc);
+    let Some(listed) = v.get("headers") else {
+        return Ok(headers);
+    };
+    for pair in items_of(listed)? {
+        headers.push(header_of(alloc, pair)?)?;
+    }
+    Ok(headers)
 }
 
 fn header_of(alloc: Global, pair: &Value) -> Result<Header, Stop> {

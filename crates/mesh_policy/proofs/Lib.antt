@@ -1,10 +1,9 @@
 pub mod AcceptedLemmas
+pub mod Addresses
 pub mod Listed
 pub mod PathLemmas
 pub mod PatternLemmas
 pub mod PeerNameLemmas
-pub mod PortRules
-pub mod PortVerdict
 pub mod SlashLemmas
 pub mod TemplateLemmas
 pub mod TokenLemmas

@@ -4,7 +4,7 @@ use Rattle.std.specs.List.{list_all}
 use Rattle.std.specs.Option.{ForSome}
 use Rattle.mesh_net.specs.declared.cidr.Cidr.{Cidr}
 use Rattle.mesh_policy.specs.AcceptedLists.{AcceptedLabels, AcceptedList, AcceptedValues}
-use Rattle.mesh_policy.specs.Values.{belongs, is_claim_name, is_lower_name, is_path_value, is_port, is_request_principal, is_short}
+use Rattle.mesh_policy.specs.Values.{belongs, is_block, is_claim_name, is_lower_name, is_path_value, is_port, is_request_principal, is_short}
 use Rattle.mesh_policy.specs.declared.condition.Condition.{Condition}
 use Rattle.mesh_policy.specs.declared.condition.Condition.TheVariants as condition
 use Rattle.mesh_policy.specs.declared.condition.TextKey.{TextKey}
@@ -18,10 +18,6 @@ use Rattle.mesh_text.specs.Token.{is_token}
 
 -- ---- sources and operations
 
--- blocks have the lengths of their families by their type, so only their number is limited
-abbrev pub AcceptedBlocks : List Cidr → Type 0
-AcceptedBlocks blocks = length blocks ≤ 2048
-
 pub record AcceptedSource (source : SourceSpec) : Type 0 where
   pub principals : AcceptedValues is_short source.principals
   pub not_principals : AcceptedValues is_short source.not_principals
@@ -29,10 +25,10 @@ pub record AcceptedSource (source : SourceSpec) : Type 0 where
   pub not_request_principals : AcceptedValues is_request_principal source.not_request_principals
   pub namespaces : AcceptedValues is_short source.namespaces
   pub not_namespaces : AcceptedValues is_short source.not_namespaces
-  pub ip_blocks : AcceptedBlocks source.ip_blocks
-  pub not_ip_blocks : AcceptedBlocks source.not_ip_blocks
-  pub remote_ip_blocks : AcceptedBlocks source.remote_ip_blocks
-  pub not_remote_ip_blocks : AcceptedBlocks source.not_remote_ip_blocks
+  pub ip_blocks : AcceptedValues is_block source.ip_blocks
+  pub not_ip_blocks : AcceptedValues is_block source.not_ip_blocks
+  pub remote_ip_blocks : AcceptedValues is_block source.remote_ip_blocks
+  pub not_remote_ip_blocks : AcceptedValues is_block source.not_remote_ip_blocks
 
 pub record AcceptedOperation (operation : OperationSpec) : Type 0 where
   pub hosts : AcceptedValues is_short operation.hosts
@@ -82,8 +78,8 @@ pub record AcceptedWords (attribute : TextKey) (words not_words : List (List ℕ
   pub written : 0 < length words + length not_words
 
 pub record AcceptedBlockLists (blocks not_blocks : List Cidr) : Type 0 where
-  pub values : AcceptedBlocks blocks
-  pub not_values : AcceptedBlocks not_blocks
+  pub values : AcceptedValues is_block blocks
+  pub not_values : AcceptedValues is_block not_blocks
   pub written : 0 < length blocks + length not_blocks
 
 pub record AcceptedPortLists (ports not_ports : List ℕ) : Type 0 where

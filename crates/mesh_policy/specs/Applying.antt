@@ -1,6 +1,6 @@
 -- Which policies apply to a Pod, and in which order (Istio reference, "Authorization Policy", "PeerAuthentication" and
 -- "RequestAuthentication": namespace and selector; MeshConfig: `rootNamespace`).
-use Rattle.std.specs.Prelude.{ℕ, Bool, ◌&&◌, ◌||◌, List, filter}
+use Rattle.std.specs.Prelude.{ℕ, Bool, ◌&&◌, ◌||◌, List, codes, filter}
 use Rattle.std.specs.List.{list_all, list_any}
 use Rattle.std.specs.Ordering.{is_lt, ordering_then}
 use Rattle.std.specs.Str.{bytes_eq}
@@ -11,6 +11,10 @@ use Rattle.mesh_policy.specs.declared.pod.Label.{Label}
 use Rattle.mesh_policy.specs.declared.pod.Pod.{Pod}
 use Rattle.mesh_policy.specs.declared.policy.AuthorizationPolicy.{AuthorizationPolicy}
 use Rattle.mesh_policy.specs.Lists.{in_order, text_cmp}
+
+-- the namespace whose policies apply to the Pods of all namespaces, where a MeshConfig names none
+abbrev pub root_namespace : List ℕ
+root_namespace = codes "istio-system"
 
 -- the same key with the same value
 abbrev pub is_same_label : Label → Label → Bool

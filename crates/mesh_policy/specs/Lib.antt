@@ -2,7 +2,6 @@ pub mod AcceptedBundle
 pub mod AcceptedLists
 pub mod AcceptedRules
 pub mod AcceptedTokens
-pub mod Applies
 pub mod Applying
 pub mod Attributes
 pub mod Authenticated
@@ -10,16 +9,13 @@ pub mod Connection
 pub mod Explanation
 pub mod Jwt
 pub mod Lists
-pub mod MeshVerdict
 pub mod Modes
 pub mod Path
 pub mod Pattern
 pub mod PeerNames
-pub mod PortPolicies
 pub mod Ports
 pub mod Provider
 pub mod RuleHolds
-pub mod Rules
 pub mod SelectFault
 pub mod Sizes
 pub mod Template

@@ -1,8 +1,11 @@
 -- What the values of manifests have to be, each as a test of the value alone (Istio reference, "Authorization Policy",
 -- RequestAuthentication; Kubernetes API reference, ContainerPort).
-use Rattle.std.specs.Prelude.{ℕ, ◌==◌, Bool, ◌&&◌, ◌||◌, not, nat_le, List, length, codes, count_by, map, Option, is_some}
+use Rattle.std.specs.Prelude.{ℕ, ◌^◌, ◌==◌, Bool, ◌&&◌, ◌||◌, not, nat_le, nat_lt, List, length, codes, count_by, map, Option, is_some}
 use Rattle.std.specs.Char.{to_ascii_lowercase}
 use Rattle.std.specs.List.{list_all}
+use Rattle.mesh_net.specs.declared.address.IpAddr.{IpAddr}
+use Rattle.mesh_net.specs.declared.address.IpAddr.TheVariants.{V4, V6}
+use Rattle.mesh_net.specs.declared.cidr.Cidr.{Cidr}
 use Rattle.mesh_policy.specs.Template.{is_template}
 use Rattle.mesh_policy.specs.declared.policy.Action.{Action}
 use Rattle.mesh_policy.specs.declared.policy.Action.TheVariants as action
@@ -71,6 +74,17 @@ is_path t = not (has_operator t) || is_template t
 
 abbrev pub is_path_value : List ℕ → Bool
 is_path_value t = is_short t && is_path t
+
+-- ---- addresses
+
+-- the bits of its family hold the address
+abbrev pub is_address : IpAddr → Bool
+is_address (V4 n) = nat_lt n (2 ^ 32)
+is_address (V6 n) = nat_lt n (2 ^ 128)
+
+-- the same of a block; that the length fits is part of what a block is
+abbrev pub is_block : Cidr → Bool
+is_block block = is_address block.addr
 
 -- ---- action and provider
 

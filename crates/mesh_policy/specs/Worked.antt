@@ -1,8 +1,9 @@
 -- Worked cases of the meaning: one Pod, policies for its ports, and connections to it.
 use Rattle.std.specs.Prelude.{ℕ, false, List, [], ◌∷◌, Option, Some, None, codes, map}
 use Rattle.mesh_net.specs.declared.address.IpAddr.TheVariants.{V4}
-use Rattle.mesh_policy.specs.Applies.{root_namespace}
-use Rattle.mesh_policy.specs.MeshVerdict.{mesh_verdict}
+use Rattle.mesh_policy.specs.Applying.{root_namespace}
+use Rattle.mesh_policy.specs.Verdicts.{verdict_of}
+use Rattle.mesh_policy.specs.Workload.{workload_of}
 use Rattle.mesh_policy.specs.declared.bundle.Bundle.{Bundle}
 use Rattle.mesh_policy.specs.declared.case.Case.{Case}
 use Rattle.mesh_policy.specs.declared.case.Tls.{Tls}
@@ -97,4 +98,4 @@ closed = record { outcome = outcome.Closed; audited = false }
 
 -- the verdict of a connection under these policies
 abbrev pub verdict : List AuthorizationPolicy → ℕ → Option Tls → Verdict
-verdict policies port tls = mesh_verdict (manifests policies) web (connection port tls)
+verdict policies port tls = verdict_of (workload_of (manifests policies) web) (connection port tls)

@@ -29,7 +29,7 @@ pub use bundle::{Bundle, MeshConfig};
 pub use case::{Case, Tls};
 pub use condition::{BlockKey, Condition, TextKey};
 pub use jwt::{JwtRule, Keys, RequestAuthentication, TokenPlace, places_or_default};
-pub use laws::{peer_names_are_read, port_policies, workload_tells_ports};
+pub use laws::{peer_names_are_read, workload_tells_ports};
 pub use limits::{
     MOST_ENTRIES, MOST_ITEMS, MOST_KEY_SET_BYTES, MOST_SLASHES, MOST_VALUE_BYTES, fixed_limits,
 };

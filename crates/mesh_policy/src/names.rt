@@ -1,6 +1,6 @@
 // Names that Kubernetes and Istio give.
 ghost use Rattle.std.specs.Prelude.{◌≡◌, codes, map};
-ghost use Rattle.mesh_policy.specs.Applies as apply;
+ghost use Rattle.mesh_policy.specs.Applying as applying;
 ghost use Rattle.mesh_policy.specs.Connection as connection;
 
 /// The namespace of what names none (Kubernetes, "Namespaces").
@@ -30,7 +30,7 @@ pub const ACCESS_TOKEN: &str = "access_token";
 /// A law: these names are the texts that definitions have. The call does nothing.
 pub fn fixed_names()
     ensures default_namespace { DEFAULT_NAMESPACE.now ≡ codes "default" }
-    ensures root_namespace { ROOT_NAMESPACE.now ≡ apply.root_namespace }
+    ensures root_namespace { ROOT_NAMESPACE.now ≡ applying.root_namespace }
     ensures authorization { AUTHORIZATION.now ≡ codes "authorization" }
     ensures bearer { BEARER.now ≡ codes "Bearer " }
     ensures access_token { ACCESS_TOKEN.now ≡ codes "access_token" }

@@ -1,6 +1,8 @@
-// Worked cases of the meaning.
+// Worked cases of the meaning, of policies for ports alone.
+#![tactic(auto, unfolding(crate::specs::Modes::other_mode, crate::specs::Ports::given, crate::specs::Ports::listed, crate::specs::RuleHolds::rule_holds, crate::specs::RuleHolds::rule_holds_tcp, crate::specs::Verdicts::arrival, crate::specs::Verdicts::verdict_of, crate::specs::Workload::workload_of))]
+
 ghost use Rattle.std.specs.Prelude.{◌≡◌, [], ◌∷◌, codes, None};
-ghost use Rattle.mesh_policy.specs.Applies.{root_namespace};
+ghost use Rattle.mesh_policy.specs.Applying.{root_namespace};
 ghost use Rattle.mesh_policy.specs.Worked as worked;
 
 /// A law: what the meaning of the policies says of some connections to a Pod of the namespace `foo`, on ports that speak

@@ -108,10 +108,10 @@ source-below s h =
     let d = principals-below s.not_request_principals h.not_request_principals in
     let e = texts-below s.namespaces h.namespaces in
     let f = texts-below s.not_namespaces h.not_namespaces in
-    let i = plain-below s.ip_blocks h.ip_blocks in
-    let j = plain-below s.not_ip_blocks h.not_ip_blocks in
-    let k = plain-below s.remote_ip_blocks h.remote_ip_blocks in
-    let l = plain-below s.not_remote_ip_blocks h.not_remote_ip_blocks in
+    let i = plain-below s.ip_blocks h.ip_blocks.few in
+    let j = plain-below s.not_ip_blocks h.not_ip_blocks.few in
+    let k = plain-below s.remote_ip_blocks h.remote_ip_blocks.few in
+    let l = plain-below s.not_remote_ip_blocks h.not_remote_ip_blocks.few in
     record {
       values = omega (arith, a.values, b.values, c.values, d.values, e.values, f.values, i.values, j.values, k.values, l.values);
       entries = omega (arith, a.entries, b.entries, c.entries, d.entries, e.entries, f.entries, i.entries, j.entries, k.entries, l.entries);
@@ -183,8 +183,8 @@ condition-below (condition.Words k vs ns) h =
       bytes = omega (arith, a.bytes, b.bytes, c.bytes);
     }
 condition-below (condition.Blocks k vs ns) h =
-    let a = plain-below vs h.values in
-    let b = plain-below ns h.not_values in
+    let a = plain-below vs h.values.few in
+    let b = plain-below ns h.not_values.few in
     record { values = omega (arith, a.values, b.values); entries = omega arith; bytes = omega arith }
 condition-below (condition.Ports vs ns) h =
     let a = plain-below vs h.values.few in

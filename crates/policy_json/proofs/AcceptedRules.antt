@@ -1,20 +1,23 @@
 -- The rules of an AuthorizationPolicy without fault are accepted.
 use Rattle.std.proofs.Common.{◌≡◌, ℕ, ◌+◌, ◌<◌, ◌==◌, ◌&&◌, Bool, true, false, not, List, length, refl}
-use Rattle.std.proofs.Common.{sym, arith, None, is_some, IsTrue, subst, ◌⊎◌, inl, inr}
-use Rattle.std.specs.Bool.{⊤}
+use Rattle.std.proofs.Common.{sym, arith, Option, None, Some, is_some, unwrap_or, IsTrue, subst, ◌⊎◌, inl, inr}
 use Rattle.std.proofs.lemmas.Bool.{and_cases, and_from, eqb-false, not-true}
 use Rattle.serde_json.specs.Data.{Data}
 use Rattle.mesh_doc.proofs.NoFault as no_fault
-use Rattle.mesh_doc.proofs.NoFault.{Ensures, ◌⨾⨾◌, anything, earlier, later, passed, strict_object}
+use Rattle.mesh_doc.proofs.NoFault.{Ensures, ◌⨾⨾◌, earlier, later, passed, strict_object}
 use Rattle.mesh_doc.specs.Faults.{Check, first}
 use Rattle.mesh_doc.specs.Fields.{required_in}
 use Rattle.mesh_doc.specs.Kinds.{text_in}
 use Rattle.mesh_doc.specs.Lists.{listed, listed_in}
 use Rattle.mesh_doc.specs.Places.{Steps}
 use Rattle.mesh_doc.specs.declared.reason.Reason.TheVariants as reason
+use Rattle.mesh_net.proofs.BlockLemmas.{spelled_if_some}
+use Rattle.mesh_net.specs.Block.{block_of}
+use Rattle.mesh_net.specs.declared.cidr.Cidr.{Cidr}
+use Rattle.mesh_policy.proofs.Addresses.{spelled-block}
 use Rattle.mesh_policy.specs.AcceptedLists.{AcceptedList}
 use Rattle.mesh_policy.specs.AcceptedRules.{AcceptedCondition, AcceptedOperation, AcceptedRule, AcceptedSource, is_value_of}
-use Rattle.mesh_policy.specs.Values.{has_few_slashes, is_path, is_path_value, is_port, is_request_principal, is_short}
+use Rattle.mesh_policy.specs.Values.{has_few_slashes, is_block, is_path, is_path_value, is_port, is_request_principal, is_short}
 use Rattle.policy_json.proofs.AcceptedKeys.{IsKey, key_ensures}
 use Rattle.policy_json.proofs.PortTexts.{port_there}
 use Rattle.policy_json.specs.ConditionKeys.{key_in}
@@ -24,7 +27,7 @@ use Rattle.policy_json.specs.Ports.{port_of}
 use Rattle.policy_json.specs.Rules.{from_faults, from_in, rule_faults, rule_in, to_faults, to_in}
 use Rattle.policy_json.specs.Sources.{source_faults, source_in}
 use Rattle.policy_json.specs.Texts.{short_text_faults}
-use Rattle.policy_json.specs.Values.{block_faults, block_in, path_faults, port_value_faults, port_value_in, request_principal_faults}
+use Rattle.policy_json.specs.Values.{any_block, block_faults, block_in, path_faults, port_value_faults, port_value_in, request_principal_faults}
 use Rattle.policy_json.specs.declared.condition_keys.ConditionKey.{ConditionKey}
 use Rattle.policy_json.specs.declared.condition_keys.ConditionKey.TheVariants as key
 use Rattle.policy_json.specs.declared.conditions.TheConstants.{KEY, NOT_VALUES, VALUES}
@@ -55,8 +58,13 @@ port_ensures = record {
       (text_in d))) _ at (later _ _ h))).1;
 }
 
-block_ensures : Ensures block_faults block_in (λ _. ⊤)
-block_ensures = anything
+block_there : (text : List ℕ) (found : Option Cidr) → found ≡ block_of text → IsTrue (is_block (unwrap_or found any_block))
+block_there text None e = refl
+block_there text (Some block) e = spelled-block text block (spelled_if_some text (Some block) e)
+
+block_ensures : Ensures block_faults block_in (λ block. IsTrue (is_block block))
+unfolding block_in
+block_ensures = record { holds = λ d at h. block_there (text_in d) (block_of (text_in d)) refl }
 
 principal_ensures : Ensures request_principal_faults text_in (λ t. IsTrue (is_request_principal t))
 unfolding request_principal_faults
@@ -95,10 +103,10 @@ source_ensures = strict_object _ (record {
         not_request_principals = lists.1.1.1.0;
         namespaces = lists.1.1.1.1.0;
         not_namespaces = lists.1.1.1.1.1.0;
-        ip_blocks = lists.1.1.1.1.1.1.0.few;
-        not_ip_blocks = lists.1.1.1.1.1.1.1.0.few;
-        remote_ip_blocks = lists.1.1.1.1.1.1.1.1.0.few;
-        not_remote_ip_blocks = lists.1.1.1.1.1.1.1.1.1.few;
+        ip_blocks = lists.1.1.1.1.1.1.0;
+        not_ip_blocks = lists.1.1.1.1.1.1.1.0;
+        remote_ip_blocks = lists.1.1.1.1.1.1.1.1.0;
+        not_remote_ip_blocks = lists.1.1.1.1.1.1.1.1.1;
       };
 })
 
@@ -162,7 +170,7 @@ values_accepted key.Principals is d at h =
     record { key = refl; values = both.values; not_values = both.not_values; written = both.written }
 values_accepted (key.Blocks address) is d at h =
     let both = both_accepted block_ensures d at h in
-    record { values = both.values.few; not_values = both.not_values.few; written = both.written }
+    record { values = both.values; not_values = both.not_values; written = both.written }
 values_accepted key.Ports is d at h =
     let both = both_accepted port_ensures d at h in
     record { values = both.values; not_values = both.not_values; written = both.written }

@@ -16,11 +16,12 @@ use Rattle.mesh_net.specs.declared.address.IpAddr.TheVariants.{V4, V6}
 use Rattle.mesh_net.specs.declared.cidr.Cidr.{Cidr}
 use Rattle.mesh_net.proofs.BlockLemmas.{block_fits}
 use Rattle.mesh_net.proofs.WrittenLemmas.{v4_back, v6_back}
+use Rattle.mesh_policy.specs.Values.{is_address}
 use Rattle.envoy_types.specs.SmallForms.{given}
 use Rattle.envoy_types.specs.WrittenFields.{Field, field, number_written, object_of}
 use Rattle.envoy_types.specs.declared.keys.TheConstants.{ADDRESS_PREFIX, PREFIX_LEN}
 use Rattle.envoy_types.specs.BlockForms.{address_in, address_prefix_faults, any_block, block_faults, block_in}
-use Rattle.envoy_types.specs.BlockForms.{block_is_printable, block_written, is_address, prefix_len_faults}
+use Rattle.envoy_types.specs.BlockForms.{block_is_printable, block_written, prefix_len_faults}
 use Rattle.envoy_types.proofs.FieldsBack.{Passes, both, get-object, required-back, required-passes, strict-object}
 use Rattle.envoy_types.proofs.PartsBack.{Back}
 

@@ -15,6 +15,7 @@ pub mod PermissionsBack
 pub mod PrincipalsBack
 pub mod ProvidersBack
 pub mod RbacBack
+pub mod Searched
 pub mod SocketsBack
 pub mod StringsBack
 pub mod TreesBack

@@ -124,7 +124,7 @@ listener-back listener can =
 pub written-spells : (listener : Listener) → is_printable listener ≡ true → Spells (listener_written listener) listener
 written-spells listener h =
     let known = listener-back listener (printable-parts listener h) in
-    (known.passes.clean [], known.back)
+    (known.passes.clean, known.back)
 
 -- a value spells one listener at most
 pub spells-one : SpellsOne

@@ -14,6 +14,7 @@ use Rattle.envoy_types.specs.declared.access.RbacPolicy.{RbacPolicy}
 
 -- rules as contracts see them
 pub record Rules : Type 0 where
+  -- what a policy that holds does
   pub action : RbacAction
   -- in byte order of their names
   pub policies : List RbacPolicy

@@ -34,12 +34,15 @@ enabled_faults rbac_name =
     ⨾ required_written PATH.now (sole_list (segment_faults text_faults))
     ⨾ required_written VALUE.now enabled_value_faults)
 
+-- the key
 unfoldable pub enabled_key_in : Data → List ℕ
 enabled_key_in d = required_written_in PATH.now (sole_in segment_in) d
 
+-- the matcher
 unfoldable pub enabled_in : Data → StringMatcher
 enabled_in d = required_written_in VALUE.now (required_written_in STRING_MATCH.now string_in) d
 
+-- the name of the RBAC filter, the key and the matcher, as an object
 unfoldable pub enabled_written : List ℕ → ExtAuthz → Data
 enabled_written rbac_name authz = object_of
     (field FILTER.now (string rbac_name)
@@ -60,6 +63,7 @@ grpc_service_faults =
     (required_written ENVOY_GRPC.now envoy_grpc_faults
     ⨾ required_written TIMEOUT.now (fixed_faults ANSWER_TIME.now))
 
+-- its cluster
 unfoldable pub grpc_service_in : Data → AuthService
 grpc_service_in d = Grpc (required_written_in ENVOY_GRPC.now (required_written_in CLUSTER_NAME.now text_in) d)
 
@@ -71,6 +75,7 @@ server_uri_faults =
     ⨾ required_written TIMEOUT.now (fixed_faults ANSWER_TIME.now)
     ⨾ required_written URI.now text_faults)
 
+-- its cluster and its URI
 unfoldable pub server_uri_in : Data → AuthService
 server_uri_in d = Http (required_written_in CLUSTER.now text_in d) (required_written_in URI.now text_in d)
 
@@ -78,6 +83,7 @@ server_uri_in d = Http (required_written_in CLUSTER.now text_in d) (required_wri
 unfoldable pub http_service_faults : Check
 http_service_faults = strict (SERVER_URI.now ∷ []) (required_written SERVER_URI.now server_uri_faults)
 
+-- what its URI means
 unfoldable pub http_service_in : Data → AuthService
 http_service_in d = required_written_in SERVER_URI.now server_uri_in d
 
@@ -85,12 +91,14 @@ http_service_in d = required_written_in SERVER_URI.now server_uri_in d
 unfoldable pub service_in : Data → AuthService
 service_in d = unwrap_or (optional_written_in GRPC_SERVICE.now grpc_service_in d) (required_written_in HTTP_SERVICE.now http_service_in d)
 
+-- an authorizer over gRPC, by its cluster
 unfoldable pub grpc_written : List ℕ → Data
 grpc_written cluster = object_of
     (field ENVOY_GRPC.now (sole_field CLUSTER_NAME.now (string cluster))
     ∷ field TIMEOUT.now (string ANSWER_TIME.now)
     ∷ [])
 
+-- an authorizer over HTTP, by its cluster and its URI
 unfoldable pub server_uri_written : List ℕ → List ℕ → Data
 server_uri_written cluster uri = object_of
     (field CLUSTER.now (string cluster)
@@ -130,9 +138,11 @@ network_authz_config_faults =
     ⨾ required_written STAT_PREFIX.now (fixed_faults TCP_PREFIX.now)
     ⨾ required_written TRANSPORT_API_VERSION.now (fixed_faults API_VERSION.now))
 
+-- `ExtAuthz` of HTTP chains under its name
 abbrev pub http_authz_faults : Check
 http_authz_faults = named_faults HTTP_AUTHZ_NAME.now http_authz_config_faults
 
+-- `ExtAuthz` of TCP chains under its name
 abbrev pub network_authz_faults : Check
 network_authz_faults = named_faults NETWORK_AUTHZ_NAME.now network_authz_config_faults
 
@@ -145,6 +155,7 @@ authz_config_in d = record {
   enabled = required_written_in FILTER_ENABLED_METADATA.now enabled_in d;
 }
 
+-- of either filter
 abbrev pub authz_in : Data → ExtAuthz
 authz_in = config_in authz_config_in
 
@@ -156,10 +167,12 @@ authz_fields rbac_name authz =
     ∷ service_field authz.service
     ∷ []
 
+-- a filter of HTTP chains, which looks at the metadata of the HTTP RBAC filter
 unfoldable pub http_authz_written : ExtAuthz → Data
 http_authz_written authz = named_written HTTP_AUTHZ_NAME.now (config_written HTTP_AUTHZ_TYPE.now
     (authz_fields HTTP_RBAC_NAME.now authz ++ field TRANSPORT_API_VERSION.now (string API_VERSION.now) ∷ []))
 
+-- a filter of TCP chains, which looks at the metadata of the network RBAC filter
 unfoldable pub network_authz_written : ExtAuthz → Data
 network_authz_written authz = named_written NETWORK_AUTHZ_NAME.now (config_written NETWORK_AUTHZ_TYPE.now
     (authz_fields NETWORK_RBAC_NAME.now authz
@@ -167,6 +180,7 @@ network_authz_written authz = named_written NETWORK_AUTHZ_NAME.now (config_writt
     ∷ field TRANSPORT_API_VERSION.now (string API_VERSION.now)
     ∷ []))
 
+-- either service goes; the matcher of the metadata has to be one that can be written
 unfoldable pub http_authz_is_printable : ExtAuthz → Bool
 http_authz_is_printable authz = string_is_printable authz.enabled
 
@@ -175,5 +189,6 @@ abbrev pub is_grpc : AuthService → Bool
 is_grpc (Grpc cluster) = true
 is_grpc (Http cluster uri) = false
 
+-- only a service over gRPC, and such a matcher
 unfoldable pub network_authz_is_printable : ExtAuthz → Bool
 network_authz_is_printable authz = is_grpc authz.service && string_is_printable authz.enabled

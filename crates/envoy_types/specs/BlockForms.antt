@@ -1,5 +1,5 @@
 -- The JSON of address blocks (Envoy v3 API reference, `config.core.v3.CidrRange`).
-use Rattle.std.specs.Prelude.{ℕ, ◌^◌, Bool, true, nat_le, nat_lt, [], ◌∷◌, Option, Some, None, is_some, unwrap_or, refl}
+use Rattle.std.specs.Prelude.{ℕ, Bool, true, nat_le, [], ◌∷◌, Option, Some, None, is_some, unwrap_or, refl}
 use Rattle.std.specs.Option.{option_and_then}
 use Rattle.serde_json.specs.Data.{Data, string}
 use Rattle.mesh_doc.specs.Faults.{Check, ◌⨾◌, ◌▸◌, demands}
@@ -11,8 +11,9 @@ use Rattle.mesh_net.specs.Address.{ip_of, width}
 use Rattle.mesh_net.specs.Cidr.{block_with}
 use Rattle.mesh_net.specs.Written.{ip_text}
 use Rattle.mesh_net.specs.declared.address.IpAddr.{IpAddr}
-use Rattle.mesh_net.specs.declared.address.IpAddr.TheVariants.{V4, V6}
+use Rattle.mesh_net.specs.declared.address.IpAddr.TheVariants.{V4}
 use Rattle.mesh_net.specs.declared.cidr.Cidr.{Cidr}
+use Rattle.mesh_policy.specs.Values.{is_address}
 use Rattle.envoy_types.specs.SmallForms.{given}
 use Rattle.envoy_types.specs.WrittenFields.{field, number_written, object_of}
 use Rattle.envoy_types.specs.declared.keys.TheConstants.{ADDRESS_PREFIX, PREFIX_LEN}
@@ -34,6 +35,7 @@ length_fits (Some ip) len = nat_le len (width ip)
 unfoldable pub prefix_len_faults : Option IpAddr → Check
 prefix_len_faults ip = number_faults ▸ demands (λ d. length_fits ip (number_in d)) reason.BadForm
 
+-- `CidrRange`: the address, and then the length that it bounds
 unfoldable pub block_faults : Check
 block_faults =
     strict (ADDRESS_PREFIX.now ∷ PREFIX_LEN.now ∷ [])
@@ -56,11 +58,6 @@ block_written block = object_of
     ∷ field PREFIX_LEN.now (number_written block.len)
     ∷ [])
 
--- the bits of the family hold the address
-abbrev pub is_address : IpAddr → Bool
-is_address (V4 n) = nat_lt n (2 ^ 32)
-is_address (V6 n) = nat_lt n (2 ^ 128)
-
--- that the length fits is part of a block
+-- The address is one of its family. That the length fits is part of a block.
 unfoldable pub block_is_printable : Cidr → Bool
 block_is_printable block = is_address block.addr

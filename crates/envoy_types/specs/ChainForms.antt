@@ -34,12 +34,15 @@ transport_named word =
     else if bytes_eq word RAW_BUFFER.now then Some transport.RawBuffer
     else None
 
+-- one of the two words
 abbrev pub transport_faults : Check
 transport_faults = tested (λ word. is_some (transport_named word)) reason.BadForm
 
+-- the protocol of the word
 unfoldable pub transport_in : Data → Transport
 transport_in d = unwrap_or (transport_named (text_in d)) transport.Tls
 
+-- the word of a protocol
 abbrev pub transport_word : Transport → List ℕ
 transport_word transport.RawBuffer = RAW_BUFFER.now
 transport_word transport.Tls = TLS.now
@@ -52,6 +55,7 @@ match_faults =
     ⨾ optional_written DESTINATION_PORT.now port_faults
     ⨾ optional_written TRANSPORT_PROTOCOL.now transport_faults)
 
+-- the three fields; a list that is not there is empty
 unfoldable pub match_in : Data → ChainMatch
 match_in d = record {
   port = optional_written_in DESTINATION_PORT.now number_in d;
@@ -59,9 +63,11 @@ match_in d = record {
   alpn = listed_written_in APPLICATION_PROTOCOLS.now text_in d;
 }
 
+-- a protocol as the text of its word
 abbrev pub transport_written : Transport → Data
 transport_written protocol = string (transport_word protocol)
 
+-- the names of ALPN unless there are none, and port and protocol where they are asked for
 unfoldable pub match_written : ChainMatch → Data
 match_written matching = object_of
     (list_field APPLICATION_PROTOCOLS.now string matching.alpn
@@ -69,10 +75,12 @@ match_written matching = object_of
     ∷ optional_field TRANSPORT_PROTOCOL.now transport_written matching.transport
     ∷ [])
 
+-- no port is asked for, or one from 1 to 65,535
 abbrev pub port_is_printable : Option ℕ → Bool
 port_is_printable None = true
 port_is_printable (Some port) = is_within 1 65535 port
 
+-- the port in its range, and the names of ALPN within the limit of lists
 unfoldable pub match_is_printable : ChainMatch → Bool
 match_is_printable matching = port_is_printable matching.port && is_short_list matching.alpn
 
@@ -100,6 +108,7 @@ chain_in d = record {
 abbrev pub socket_field : Bool → Field
 socket_field mutual_tls = (TRANSPORT_SOCKET.now, if mutual_tls then Some socket_written else None)
 
+-- all its fields, the socket only with mutual TLS
 unfoldable pub chain_written : FilterChain → Data
 chain_written chain = object_of
     (field FILTER_CHAIN_MATCH.now (match_written chain.matching)
@@ -108,6 +117,7 @@ chain_written chain = object_of
     ∷ socket_field chain.mutual_tls
     ∷ [])
 
+-- its match and its filters can be written; every name goes
 unfoldable pub chain_is_printable : FilterChain → Bool
 chain_is_printable chain = match_is_printable chain.matching && body_is_printable chain.body
 

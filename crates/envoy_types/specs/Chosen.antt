@@ -15,6 +15,7 @@ use Rattle.envoy_types.specs.declared.chains.Transport.TheVariants.{RawBuffer, T
 
 -- a chain and where it stands in its listener
 pub record Placed : Type 0 where
+  -- counted from 0
   pub position : ℕ
   pub chain : FilterChain
 
@@ -78,13 +79,15 @@ agreed_name names chains = find (λ name. list_any (λ c. lists_name name c.chai
 abbrev pub names_agreed : Option (List ℕ) → ChainMatch → Bool
 names_agreed name matching = holds_of (λ n. lists_name n matching) name
 
--- the three selections
+-- the three selections: by the destination port
 abbrev pub for_port : ℕ → List Placed → List Placed
 for_port port chains = narrowed (names_port port) is_any_port chains
 
+-- by the transport protocol
 abbrev pub for_transport : Option Tls → List Placed → List Placed
 for_transport tls chains = narrowed (names_transport (transport_of tls)) is_any_transport chains
 
+-- by the first name that the client offers and a chain lists
 abbrev pub for_names : Option Tls → List Placed → List Placed
 for_names tls chains = narrowed (names_agreed (agreed_name (offered tls) chains)) is_any_name chains
 

@@ -41,6 +41,7 @@ proxy_config_faults =
     ⨾ required_written CLUSTER.now text_faults
     ⨾ given (λ d. required_written STAT_PREFIX.now (fixed_faults (required_written_in CLUSTER.now text_in d))))
 
+-- `TcpProxy` under its name
 abbrev pub proxy_faults : Check
 proxy_faults = named_faults TCP_PROXY_NAME.now proxy_config_faults
 
@@ -48,6 +49,7 @@ proxy_faults = named_faults TCP_PROXY_NAME.now proxy_config_faults
 unfoldable pub proxy_in : Data → List ℕ
 proxy_in = config_in (required_written_in CLUSTER.now text_in)
 
+-- a TCP proxy to this cluster
 unfoldable pub proxy_written : List ℕ → Data
 proxy_written cluster = named_written TCP_PROXY_NAME.now (config_written TCP_PROXY_TYPE.now
     (field CLUSTER.now (string cluster)
@@ -60,13 +62,16 @@ proxy_written cluster = named_written TCP_PROXY_NAME.now (config_written TCP_PRO
 unfoldable pub network_filter_faults : Check
 network_filter_faults d = (if is_named NETWORK_RBAC_NAME.now d then network_rbac_faults else network_authz_faults) d
 
+-- the filter of the kind that its name says
 unfoldable pub network_filter_in : Data → NetworkFilter
 network_filter_in d = if is_named NETWORK_RBAC_NAME.now d then network.Rbac (rbac_in d) else network.ExtAuthz (authz_in d)
 
+-- with the configuration of its kind
 unfoldable pub network_filter_written : NetworkFilter → Data
 network_filter_written (network.Rbac rbac) = network_rbac_written rbac
 network_filter_written (network.ExtAuthz authz) = network_authz_written authz
 
+-- what its kind asks
 unfoldable pub network_filter_is_printable : NetworkFilter → Bool
 network_filter_is_printable (network.Rbac rbac) = rbac_is_printable rbac
 network_filter_is_printable (network.ExtAuthz authz) = network_authz_is_printable authz
@@ -80,25 +85,30 @@ http_filter_faults d =
     else if is_named HTTP_AUTHZ_NAME.now d then http_authz_faults
     else jwt_faults) d
 
+-- the filter of the kind that its name says
 unfoldable pub http_filter_in : Data → HttpFilter
 http_filter_in d =
     if is_named HTTP_RBAC_NAME.now d then http.Rbac (rbac_in d)
     else if is_named HTTP_AUTHZ_NAME.now d then http.ExtAuthz (authz_in d)
     else http.Jwt (jwt_in d)
 
+-- with the configuration of its kind
 unfoldable pub http_filter_written : HttpFilter → Data
 http_filter_written (http.Jwt jwt) = jwt_written jwt
 http_filter_written (http.Rbac rbac) = http_rbac_written rbac
 http_filter_written (http.ExtAuthz authz) = http_authz_written authz
 
+-- what its kind asks
 unfoldable pub http_filter_is_printable : HttpFilter → Bool
 http_filter_is_printable (http.Jwt jwt) = jwt_is_printable jwt
 http_filter_is_printable (http.Rbac rbac) = rbac_is_printable rbac
 http_filter_is_printable (http.ExtAuthz authz) = http_authz_is_printable authz
 
+-- `Router` under its name, which has no field
 unfoldable pub router_faults : Check
 router_faults = named_faults ROUTER_NAME.now (plain_config_faults ROUTER_TYPE.now)
 
+-- the router
 unfoldable pub router_written : Data
 router_written = named_written ROUTER_NAME.now (config_written ROUTER_TYPE.now [])
 
@@ -149,12 +159,14 @@ route_config_faults =
     (required_written NAME.now text_faults
     ⨾ given (λ d. required_written VIRTUAL_HOSTS.now (sole_list (virtual_host_faults (required_written_in NAME.now text_in d)))))
 
+-- a route of every path to the cluster of this name
 unfoldable pub route_written : List ℕ → Data
 route_written name = object_of
     (field MATCH.now (sole_field PREFIX.now (string ALL_PATHS.now))
     ∷ field ROUTE.now (sole_field CLUSTER.now (string name))
     ∷ [])
 
+-- the host of every authority, with that route
 unfoldable pub virtual_host_written : List ℕ → Data
 virtual_host_written name = object_of
     (field DOMAINS.now (array (items (string ALL_DOMAINS.now ∷ [])))
@@ -162,6 +174,7 @@ virtual_host_written name = object_of
     ∷ field ROUTES.now (array (items (route_written name ∷ [])))
     ∷ [])
 
+-- a route configuration of this name, with that host
 unfoldable pub route_config_written : List ℕ → Data
 route_config_written name = object_of
     (field NAME.now (string name)
@@ -183,6 +196,7 @@ manager_config_faults =
     ⨾ required_written ROUTE_CONFIG.now route_config_faults
     ⨾ given (λ d. required_written STAT_PREFIX.now (fixed_faults (route_name_in d))))
 
+-- `HttpConnectionManager` under its name
 abbrev pub manager_faults : Check
 manager_faults = named_faults HTTP_MANAGER_NAME.now manager_config_faults
 
@@ -190,12 +204,15 @@ manager_faults = named_faults HTTP_MANAGER_NAME.now manager_config_faults
 unfoldable pub manager_config_in : Data → ChainBody
 manager_config_in d = Http (required_written_in HTTP_FILTERS.now (front_in http_filter_in) d) (route_name_in d)
 
+-- of the filter
 unfoldable pub manager_in : Data → ChainBody
 manager_in = config_in manager_config_in
 
+-- the filters, and the router behind them
 abbrev pub http_filters_written : List HttpFilter → Data
 http_filters_written filters = array (items (map http_filter_written filters ++ router_written ∷ []))
 
+-- a connection manager with these filters, whose routes, cluster and statistics have one name
 unfoldable pub manager_written : List HttpFilter → List ℕ → Data
 manager_written filters cluster = named_written HTTP_MANAGER_NAME.now (config_written HTTP_MANAGER_TYPE.now
     (field HTTP_FILTERS.now (http_filters_written filters)
@@ -231,9 +248,11 @@ body_faults =
     ▸ demands (λ d. is_manager (items_of d) || are_tcp_filters (items_of d)) reason.BadForm
     ▸ body_entries_faults
 
+-- the connection manager, or the proxy with the filters before it
 unfoldable pub body_in : Data → ChainBody
 body_in d = if is_manager (items_of d) then last_in manager_in d else Tcp (front_in network_filter_in d) (last_in proxy_in d)
 
+-- the filters with the proxy behind them, or the connection manager alone
 unfoldable pub body_written : ChainBody → Data
 body_written (Tcp filters cluster) = array (items (map network_filter_written filters ++ proxy_written cluster ∷ []))
 body_written (Http filters cluster) = array (items (manager_written filters cluster ∷ []))
@@ -242,6 +261,7 @@ body_written (Http filters cluster) = array (items (manager_written filters clus
 abbrev pub filters_are_printable : {F : Type 0} → (F → Bool) → List F → Bool
 filters_are_printable test filters = nat_le (length filters + 1) most_entries && list_all test filters
 
+-- each filter can be written, and their list with its last entry is within the limit of lists
 unfoldable pub body_is_printable : ChainBody → Bool
 body_is_printable (Tcp filters cluster) = filters_are_printable network_filter_is_printable filters
 body_is_printable (Http filters cluster) = filters_are_printable http_filter_is_printable filters

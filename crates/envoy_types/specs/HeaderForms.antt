@@ -30,11 +30,13 @@ unfoldable pub is_header_name : List ℕ → Bool
 is_header_name t =
     is_lower_token t || bytes_eq t METHOD_HEADER.now || bytes_eq t AUTHORITY_HEADER.now || bytes_eq t PATH_HEADER.now
 
+-- a text that is such a name
 abbrev pub header_name_faults : Check
 header_name_faults = tested is_header_name reason.BadForm
 
 -- ---- the matcher
 
+-- `HeaderMatcher`: one of both tests, beside the name
 unfoldable pub header_faults : Check
 header_faults =
     strict (NAME.now ∷ PRESENT_MATCH.now ∷ STRING_MATCH.now ∷ [])
@@ -55,12 +57,15 @@ abbrev pub header_test_field : HeaderTest → Field
 header_test_field Present = field PRESENT_MATCH.now (boolean true)
 header_test_field (Words m) = field STRING_MATCH.now (string_written m)
 
+-- the name, and the one test
 unfoldable pub header_written : HeaderMatch → Data
 header_written h = object_of (field NAME.now (string h.name) ∷ header_test_field h.test ∷ [])
 
+-- the matcher of a value can be written; that a header is there always can
 abbrev pub header_test_is_printable : HeaderTest → Bool
 header_test_is_printable Present = true
 header_test_is_printable (Words m) = string_is_printable m
 
+-- a name that the field takes, and a test that can be written
 unfoldable pub header_is_printable : HeaderMatch → Bool
 header_is_printable h = is_header_name h.name && header_test_is_printable h.test

@@ -34,6 +34,7 @@ use Rattle.envoy_types.specs.declared.names.TheConstants.{JWT_NAME, JWT_TYPE}
 abbrev pub is_provider : List (List ℕ) → List ℕ → Bool
 is_provider names name = list_any (bytes_eq name) names
 
+-- the name of one of these providers
 abbrev pub provider_name_faults : List (List ℕ) → Check
 provider_name_faults names = tested (is_provider names) reason.BadForm
 
@@ -68,6 +69,7 @@ requires_any_faults names = strict (REQUIREMENTS.now ∷ []) (required_written R
 abbrev pub any_of : List (Option (List ℕ)) → Requirement
 any_of entries = AnyOf (filter_map (λ entry. entry) entries) (list_any is_none entries)
 
+-- the entries of the list
 unfoldable pub requires_any_in : Data → Requirement
 requires_any_in d = any_of (required_written_in REQUIREMENTS.now (list_in requirement_entry_in) d)
 
@@ -79,10 +81,12 @@ requirement_faults names =
     ⨾ optional_written PROVIDER_NAME.now (provider_name_faults names)
     ⨾ optional_written REQUIRES_ANY.now (requires_any_faults names))
 
+-- the alternative that is there
 unfoldable pub requirement_in : Data → Requirement
 requirement_in d =
     unwrap_or (optional_written_in REQUIRES_ANY.now requires_any_in d) (One (required_written_in PROVIDER_NAME.now text_in d))
 
+-- one provider, by its name
 abbrev pub provider_name_written : List ℕ → Data
 provider_name_written name = sole_field PROVIDER_NAME.now (string name)
 
@@ -90,6 +94,7 @@ provider_name_written name = sole_field PROVIDER_NAME.now (string name)
 abbrev pub missing_entries : Bool → List Data
 missing_entries allow_missing = if allow_missing then sole_field ALLOW_MISSING.now (object no_members) ∷ [] else []
 
+-- one provider, or the list of several
 unfoldable pub requirement_written : Requirement → Data
 requirement_written (One name) = provider_name_written name
 requirement_written (AnyOf names allow_missing) = sole_field REQUIRES_ANY.now (sole_field REQUIREMENTS.now
@@ -118,18 +123,21 @@ check_faults names =
     (required_written MATCH.now prefix_match_faults
     ⨾ optional_written REQUIRES.now (requirement_faults names))
 
+-- the prefix of the paths, and what is required, if anything is
 unfoldable pub check_in : Data → JwtCheck
 check_in d = record {
   prefix = required_written_in MATCH.now (required_written_in PREFIX.now text_in) d;
   requirement = optional_written_in REQUIRES.now requirement_in d;
 }
 
+-- the prefix, and the requirement where there is one
 unfoldable pub check_written : JwtCheck → Data
 check_written check = object_of
     (field MATCH.now (sole_field PREFIX.now (string check.prefix))
     ∷ optional_field REQUIRES.now requirement_written check.requirement
     ∷ [])
 
+-- nothing is required, or what can be written
 abbrev pub check_is_printable : List (List ℕ) → Option Requirement → Bool
 check_is_printable known None = true
 check_is_printable known (Some requirement) = requirement_is_printable known requirement
@@ -140,6 +148,7 @@ check_is_printable known (Some requirement) = requirement_is_printable known req
 unfoldable pub providers_in : Data → List Provider
 providers_in d = required_written_in PROVIDERS.now (map_in provider_in) d
 
+-- their names
 abbrev pub provider_names : List Provider → List (List ℕ)
 provider_names providers = map (λ provider. provider.name) providers
 
@@ -151,21 +160,26 @@ jwt_config_faults =
     ⨾ required_written PROVIDERS.now (map_of provider_faults)
     ⨾ given (λ d. required_written RULES.now (any_list (check_faults (provider_names (providers_in d))))))
 
+-- `JwtAuthentication` under its name
 abbrev pub jwt_faults : Check
 jwt_faults = named_faults JWT_NAME.now jwt_config_faults
 
+-- the providers and the rules
 unfoldable pub jwt_config_in : Data → Authentication
 jwt_config_in d = record { providers = providers_in d; rules = required_written_in RULES.now (list_in check_in) d }
 
+-- of the filter
 abbrev pub jwt_in : Data → Authentication
 jwt_in = config_in jwt_config_in
 
+-- the providers by their names, and the rules, both also where they are empty
 unfoldable pub jwt_written : Authentication → Data
 jwt_written jwt = named_written JWT_NAME.now (config_written JWT_TYPE.now
     (field PROVIDERS.now (map_written (λ provider. provider.name) provider_written jwt.providers)
     ∷ field RULES.now (list_written check_written jwt.rules)
     ∷ []))
 
+-- providers whose names rise, rules within the limit of lists, and no requirement of another provider
 unfoldable pub jwt_is_printable : Authentication → Bool
 jwt_is_printable jwt =
     names_rise (λ provider. provider.name) jwt.providers && list_all provider_is_printable jwt.providers

@@ -7,7 +7,7 @@ use Rattle.mesh_doc.specs.Faults.{Check, ◌⨾◌, first}
 use Rattle.mesh_doc.specs.Fields.{strict, required_written, required_written_in}
 use Rattle.mesh_doc.specs.Kinds.{number_in, text_faults, text_in}
 use Rattle.mesh_doc.specs.Lists.{list_in}
-use Rattle.mesh_doc.specs.Places.{at_key}
+use Rattle.mesh_doc.specs.Places.{Steps, at_key}
 use Rattle.envoy_types.specs.ChainForms.{are_distinct, chain_faults, chain_in, chain_is_printable, chain_written, duplicates}
 use Rattle.envoy_types.specs.SmallForms.{any_port_faults, fixed_faults, is_within, list_that, most_chains}
 use Rattle.envoy_types.specs.SocketForms.{listener_filters_faults, listener_filters_written}
@@ -31,12 +31,15 @@ socket_address_faults =
 unfoldable pub address_faults : Check
 address_faults = strict (SOCKET_ADDRESS.now ∷ []) (required_written SOCKET_ADDRESS.now socket_address_faults)
 
+-- the address
 unfoldable pub address_in : Data → List ℕ
 address_in d = required_written_in SOCKET_ADDRESS.now (required_written_in ADDRESS.now text_in) d
 
+-- the port
 unfoldable pub port_in : Data → ℕ
 port_in d = required_written_in SOCKET_ADDRESS.now (required_written_in PORT_VALUE.now number_in) d
 
+-- an address and a port as an object
 unfoldable pub address_written : List ℕ → ℕ → Data
 address_written address port = sole_field SOCKET_ADDRESS.now (object_of
     (field ADDRESS.now (string address)
@@ -49,6 +52,7 @@ address_written address port = sole_field SOCKET_ADDRESS.now (object_of
 unfoldable pub chains_faults : Check
 chains_faults = list_that (is_within 1 most_chains) most_chains chain_faults
 
+-- what the chains mean, in their order
 unfoldable pub chains_in : Data → List FilterChain
 chains_in d = required_written_in FILTER_CHAINS.now (list_in chain_in) d
 
@@ -69,6 +73,7 @@ listener_faults =
     ⨾ required_written TRAFFIC_DIRECTION.now (fixed_faults INBOUND_DIRECTION.now)
     ⨾ duplicate_faults)
 
+-- the fields that may differ; a listener has no others
 unfoldable pub listener_in : Data → Listener
 listener_in d = record {
   name = required_written_in NAME.now text_in d;
@@ -77,9 +82,9 @@ listener_in d = record {
   chains = chains_in d;
 }
 
--- The value spells the listener: it has no fault, and this is what it means. So a value spells at most one.
+-- The value spells the listener: it has no fault, wherever it stands, and this is what it means. So a value spells at most one.
 abbrev pub Spells : Data → Listener → Type 0
-Spells d listener = (first (listener_faults d []) ≡ None) × (listener_in d ≡ listener)
+Spells d listener = ((at : Steps) → first (listener_faults d at) ≡ None) × (listener_in d ≡ listener)
 
 -- The value in which a listener is written: no field has its default, but the action of rules and the places of tokens, which
 -- are always told, and addresses stand in their one text.
@@ -103,6 +108,7 @@ is_printable listener =
 abbrev pub listener_depth : Listener → ℕ
 listener_depth listener = depth (listener_written listener)
 
+-- of a chain alone
 abbrev pub chain_depth : FilterChain → ℕ
 chain_depth chain = depth (chain_written chain)
 

@@ -38,6 +38,7 @@ template_config_faults =
     (type_faults URI_TEMPLATE_TYPE.now
     ⨾ required_written PATH_TEMPLATE.now template_faults)
 
+-- the matcher of templates under its name
 abbrev pub uri_template_faults : Check
 uri_template_faults = named_faults URI_TEMPLATE_NAME.now template_config_faults
 
@@ -45,6 +46,7 @@ uri_template_faults = named_faults URI_TEMPLATE_NAME.now template_config_faults
 unfoldable pub uri_template_in : Data → List ℕ
 uri_template_in = config_in (required_written_in PATH_TEMPLATE.now text_in)
 
+-- a template under the name of the matcher
 unfoldable pub uri_template_written : List ℕ → Data
 uri_template_written uri =
     named_written URI_TEMPLATE_NAME.now (config_written URI_TEMPLATE_TYPE.now (field PATH_TEMPLATE.now (string uri) ∷ []))
@@ -76,6 +78,7 @@ permission_leaf_in key d =
     else if bytes_eq key URI_TEMPLATE.now then leaf.UriTemplate (uri_template_in d)
     else leaf.UrlPath (required_written_in PATH.now string_in d)
 
+-- each leaf under the name of its alternative
 unfoldable pub permission_leaf_written : PermissionLeaf → Data
 permission_leaf_written (leaf.DestinationIp block) = sole_field DESTINATION_IP.now (block_written block)
 permission_leaf_written (leaf.DestinationPort port) = sole_field DESTINATION_PORT.now (number_written port)
@@ -84,6 +87,7 @@ permission_leaf_written (leaf.ServerName m) = sole_field SERVER_NAME.now (string
 permission_leaf_written (leaf.UriTemplate uri) = sole_field URI_TEMPLATE.now (uri_template_written uri)
 permission_leaf_written (leaf.UrlPath m) = sole_field URL_PATH.now (sole_field PATH.now (string_written m))
 
+-- a port in its range, and what the form of each other alternative asks
 unfoldable pub permission_leaf_is_printable : PermissionLeaf → Bool
 permission_leaf_is_printable (leaf.DestinationIp block) = block_is_printable block
 permission_leaf_is_printable (leaf.DestinationPort port) = is_within 0 65535 port

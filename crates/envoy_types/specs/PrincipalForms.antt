@@ -23,12 +23,15 @@ use Rattle.envoy_types.specs.declared.strings.StringMatcher.{StringMatcher}
 unfoldable pub authenticated_faults : Check
 authenticated_faults = strict (PRINCIPAL_NAME.now ∷ []) (optional_written PRINCIPAL_NAME.now string_faults)
 
+-- the matcher of its name, if there is one
 unfoldable pub authenticated_in : Data → Option StringMatcher
 authenticated_in d = optional_written_in PRINCIPAL_NAME.now string_in d
 
+-- an object with the matcher, or without a field
 unfoldable pub authenticated_written : Option StringMatcher → Data
 authenticated_written name = object_of (optional_field PRINCIPAL_NAME.now string_written name ∷ [])
 
+-- no matcher, or one that can be written
 abbrev pub authenticated_is_printable : Option StringMatcher → Bool
 authenticated_is_printable None = true
 authenticated_is_printable (Some m) = string_is_printable m
@@ -57,6 +60,7 @@ principal_leaf_in key d =
     else if bytes_eq key METADATA.now then leaf.Metadata (required_written_in PATH.now path_in d) (required_written_in VALUE.now value_in d)
     else leaf.RemoteIp (block_in d)
 
+-- each leaf under the name of its alternative
 unfoldable pub principal_leaf_written : PrincipalLeaf → Data
 principal_leaf_written (leaf.Authenticated name) = sole_field AUTHENTICATED.now (authenticated_written name)
 principal_leaf_written (leaf.DirectRemoteIp block) = sole_field DIRECT_REMOTE_IP.now (block_written block)
@@ -64,6 +68,7 @@ principal_leaf_written (leaf.RemoteIp block) = sole_field REMOTE_IP.now (block_w
 principal_leaf_written (leaf.Header h) = sole_field HEADER.now (header_written h)
 principal_leaf_written (leaf.Metadata keys value) = sole_field METADATA.now (metadata_written keys value)
 
+-- what the form of each alternative asks
 unfoldable pub principal_leaf_is_printable : PrincipalLeaf → Bool
 principal_leaf_is_printable (leaf.Authenticated name) = authenticated_is_printable name
 principal_leaf_is_printable (leaf.DirectRemoteIp block) = block_is_printable block

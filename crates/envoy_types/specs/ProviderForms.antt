@@ -38,6 +38,7 @@ from_header_faults =
     (required_written NAME.now lower_token_faults
     ⨾ optional_written VALUE_PREFIX.now text_faults)
 
+-- the header, with the empty prefix where none is written
 unfoldable pub from_header_in : Data → TokenPlace
 from_header_in d =
     place.Header (required_written_in NAME.now text_in d) (unwrap_or (optional_written_in VALUE_PREFIX.now text_in d) [])
@@ -61,6 +62,7 @@ abbrev pub param_of : TokenPlace → Option (List ℕ)
 param_of (place.Header name prefix) = None
 param_of (place.Param name) = Some name
 
+-- a header, and its prefix unless that is empty
 unfoldable pub from_header_written : List ℕ × List ℕ → Data
 from_header_written header = object_of (field NAME.now (string header.0) ∷ text_field VALUE_PREFIX.now header.1 ∷ [])
 
@@ -70,6 +72,7 @@ from_header_written header = object_of (field NAME.now (string header.0) ∷ tex
 unfoldable pub local_keys_faults : Check
 local_keys_faults = strict (INLINE_STRING.now ∷ []) (required_written INLINE_STRING.now text_faults)
 
+-- the set
 unfoldable pub local_keys_in : Data → Keys
 local_keys_in d = Inline (required_written_in INLINE_STRING.now text_in d)
 
@@ -85,6 +88,7 @@ keys_uri_faults =
 unfoldable pub remote_keys_faults : Check
 remote_keys_faults = strict (HTTP_URI.now ∷ []) (required_written HTTP_URI.now keys_uri_faults)
 
+-- the URI that it is fetched from
 unfoldable pub remote_keys_in : Data → Keys
 remote_keys_in d = Uri (required_written_in HTTP_URI.now (required_written_in URI.now text_in) d)
 
@@ -92,6 +96,7 @@ remote_keys_in d = Uri (required_written_in HTTP_URI.now (required_written_in UR
 unfoldable pub keys_in : Data → Keys
 keys_in d = unwrap_or (optional_written_in LOCAL_JWKS.now local_keys_in d) (required_written_in REMOTE_JWKS.now remote_keys_in d)
 
+-- where the set is fetched, by its URI
 unfoldable pub keys_uri_written : List ℕ → Data
 keys_uri_written uri = object_of
     (field CLUSTER.now (string KEYS_CLUSTER.now)
@@ -138,6 +143,7 @@ provider_rule_in d = record {
   payload_header = optional_written_in FORWARD_PAYLOAD_HEADER.now text_in d;
 }
 
+-- the rule under its name
 unfoldable pub provider_in : List ℕ → Data → Provider
 provider_in name d = record { name = name; rule = provider_rule_in d }
 
@@ -167,10 +173,12 @@ places_are_printable places =
     are_places places && list_all place_is_printable places
     && is_short_list (filter_map header_of places) && is_short_list (filter_map param_of places)
 
+-- no header, or a name in lower case
 abbrev pub payload_header_is_printable : Option (List ℕ) → Bool
 payload_header_is_printable None = true
 payload_header_is_printable (Some name) = is_lower_token name
 
+-- audiences within the limit of lists, and places and a header that can be written
 unfoldable pub provider_is_printable : Provider → Bool
 provider_is_printable provider =
     is_short_list provider.rule.audiences && places_are_printable provider.rule.places

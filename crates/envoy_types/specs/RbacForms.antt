@@ -36,6 +36,7 @@ policy_faults name =
     (required_written PERMISSIONS.now (tree_list_faults permission_form)
     ⨾ required_written PRINCIPALS.now (tree_list_faults principal_form))
 
+-- its permissions and principals, under its name
 unfoldable pub policy_in : List ℕ → Data → RbacPolicy
 policy_in name d = record {
   name = name;
@@ -43,12 +44,14 @@ policy_in name d = record {
   principals = required_written_in PRINCIPALS.now (tree_list_in principal_form) d;
 }
 
+-- the lists of its permissions and of its principals
 unfoldable pub policy_written : RbacPolicy → Data
 policy_written policy = object_of
     (field PERMISSIONS.now (list_written (tree_written permission_form) policy.permissions)
     ∷ field PRINCIPALS.now (list_written (tree_written principal_form) policy.principals)
     ∷ [])
 
+-- both lists can be written
 unfoldable pub policy_is_printable : RbacPolicy → Bool
 policy_is_printable policy =
     tree_list_is_printable permission_form policy.permissions && tree_list_is_printable principal_form policy.principals
@@ -63,12 +66,15 @@ action_of word =
     else if bytes_eq word LOG.now then Some action.Log
     else None
 
+-- one of the three words
 abbrev pub action_faults : Check
 action_faults = tested (λ word. is_some (action_of word)) reason.BadForm
 
+-- the action of the word
 unfoldable pub action_in : Data → RbacAction
 action_in d = unwrap_or (action_of (text_in d)) action.Allow
 
+-- the word of an action
 abbrev pub action_word : RbacAction → List ℕ
 action_word action.Allow = ALLOW.now
 action_word action.Deny = DENY.now
@@ -127,9 +133,11 @@ network_rbac_config_faults =
     ⨾ rbac_fields_faults
     ⨾ required_written STAT_PREFIX.now (fixed_faults TCP_PREFIX.now))
 
+-- the filter of HTTP chains under its name
 abbrev pub http_rbac_faults : Check
 http_rbac_faults = named_faults HTTP_RBAC_NAME.now http_rbac_config_faults
 
+-- the filter of TCP chains under its name
 abbrev pub network_rbac_faults : Check
 network_rbac_faults = named_faults NETWORK_RBAC_NAME.now network_rbac_config_faults
 
@@ -141,6 +149,7 @@ rbac_config_in d = record {
   shadow_prefix = unwrap_or (optional_written_in SHADOW_PREFIX.now text_in d) [];
 }
 
+-- of either filter
 abbrev pub rbac_in : Data → Rbac
 rbac_in = config_in rbac_config_in
 
@@ -152,12 +161,15 @@ rbac_fields rbac =
     ∷ text_field SHADOW_PREFIX.now rbac.shadow_prefix
     ∷ []
 
+-- a filter of HTTP chains
 unfoldable pub http_rbac_written : Rbac → Data
 http_rbac_written rbac = named_written HTTP_RBAC_NAME.now (config_written HTTP_RBAC_TYPE.now (rbac_fields rbac))
 
+-- a filter of TCP chains, with its prefix of statistics
 unfoldable pub network_rbac_written : Rbac → Data
 network_rbac_written rbac = named_written NETWORK_RBAC_NAME.now (config_written NETWORK_RBAC_TYPE.now
     (rbac_fields rbac ++ field STAT_PREFIX.now (string TCP_PREFIX.now) ∷ []))
 
+-- both kinds of rules can be written; every prefix goes
 unfoldable pub rbac_is_printable : Rbac → Bool
 rbac_is_printable rbac = optional_rules_are_printable rbac.rules && optional_rules_are_printable rbac.shadow

@@ -97,15 +97,18 @@ run_required jwt case state (Some requirement) =
     then record { decision = goes_on; state = with_claims (claims_by jwt.providers requirement case) state }
     else record { decision = unauthenticated; state = state }
 
+-- the token filter takes the requirement of its first rule for the path
 abbrev pub run_jwt : Authentication → Case → RunState → Step
 run_jwt jwt case state = run_required jwt case state (required jwt case)
 
 -- ---- the filters of a chain
 
+-- a network filter
 abbrev pub run_network : Case → NetworkFilter → RunState → Step
 run_network case (network.Rbac rbac) state = run_rbac rbac case state
 run_network case (network.ExtAuthz authz) state = run_authz authz case state
 
+-- an HTTP filter
 abbrev pub run_http : Case → HttpFilter → RunState → Step
 run_http case (http.Jwt jwt) state = run_jwt jwt case state
 run_http case (http.Rbac rbac) state = run_rbac rbac case state

@@ -119,6 +119,7 @@ value_same a b h = cc
 
 -- ---- leaves
 
+-- equal permissions are the same
 pub permission_same : (a b : PermissionLeaf) → permissions.ghosts.eq a b ≡ true → a ≡ b
 permission_same (permission.Header h) (permission.Header k) e = ap permission.Header (header_same h k e)
 permission_same (permission.UrlPath m) (permission.UrlPath n) e = ap permission.UrlPath (matcher_same m n e)
@@ -131,6 +132,7 @@ permission_same a b e = cc
 metadata_from : (p p' : List (List ℕ)) (v v' : ValueMatcher) → p ≡ p' → v ≡ v' → principal.Metadata p v ≡ principal.Metadata p' v'
 metadata_from p p' v v' e f = cc
 
+-- equal principals are the same
 pub principal_same : (a b : PrincipalLeaf) → principals.ghosts.eq a b ≡ true → a ≡ b
 principal_same (principal.Authenticated None) (principal.Authenticated None) e = refl
 principal_same (principal.Authenticated (Some m)) (principal.Authenticated (Some n)) e =

@@ -85,11 +85,12 @@ unfoldable pub list_in_turn_that : {S : Type 0} → (ℕ → Bool) → (S → Ch
 list_in_turn_that fits f after seen =
     short_list_faults most_entries ▸ (demands (λ d. fits (length_in d)) reason.BadForm ⨾ list_in_turn most_entries f after seen)
 
--- what the one entry means
+-- the first entry, and `null` of an empty list
 abbrev pub first_of : Items → Data
 first_of no_items = null
 first_of (item d ds) = d
 
+-- what the one entry means
 unfoldable pub sole_in : {A : Type 0} → (Data → A) → Data → A
 sole_in value d = value (first_of (items_of d))
 

@@ -35,18 +35,22 @@ tls_context_faults =
     ⨾ required_written COMMON_TLS_CONTEXT.now certificates_faults
     ⨾ required_written REQUIRE_CLIENT_CERTIFICATE.now true_faults)
 
+-- `DownstreamTlsContext` under its name
 abbrev pub socket_faults : Check
 socket_faults = named_faults TLS_SOCKET_NAME.now tls_context_faults
 
+-- a secret by its name
 abbrev pub secret_written : List ℕ → Data
 secret_written name = sole_field NAME.now (string name)
 
+-- the workload's certificate and the roots of the mesh
 unfoldable pub certificates_written : Data
 certificates_written = object_of
     (field TLS_CERTIFICATES.now (array (items_of (secret_written OWN_CERTIFICATE.now ∷ [])))
     ∷ field VALIDATION_CONTEXT.now (secret_written MESH_ROOTS.now)
     ∷ [])
 
+-- the one TLS socket that a chain may have
 unfoldable pub socket_written : Data
 socket_written = named_written TLS_SOCKET_NAME.now (config_written TLS_SOCKET_TYPE.now
     (field COMMON_TLS_CONTEXT.now certificates_written
@@ -59,6 +63,7 @@ socket_written = named_written TLS_SOCKET_NAME.now (config_written TLS_SOCKET_TY
 unfoldable pub original_dst_faults : Check
 original_dst_faults = named_faults ORIGINAL_DST_NAME.now (plain_config_faults ORIGINAL_DST_TYPE.now)
 
+-- the TLS inspector, which has no field either
 unfoldable pub tls_inspector_faults : Check
 tls_inspector_faults = named_faults TLS_INSPECTOR_NAME.now (plain_config_faults TLS_INSPECTOR_TYPE.now)
 
@@ -70,6 +75,7 @@ listener_filter_faults index = if index == 0 then original_dst_faults else tls_i
 unfoldable pub listener_filters_faults : Check
 listener_filters_faults = list_in_turn_that {S = ℕ} (λ n. n == 2) listener_filter_faults (λ index _. index + 1) 0
 
+-- both filters, in their order
 unfoldable pub listener_filters_written : Data
 listener_filters_written = array (items_of (
     named_written ORIGINAL_DST_NAME.now (config_written ORIGINAL_DST_TYPE.now [])

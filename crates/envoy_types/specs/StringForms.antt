@@ -18,6 +18,7 @@ use Rattle.envoy_types.specs.declared.strings.StringMatcher.{StringMatcher}
 abbrev pub is_filled : List ℕ → Bool
 is_filled t = nat_le 1 (length t)
 
+-- a text that is not empty
 abbrev pub filled_text_faults : Check
 filled_text_faults = tested is_filled reason.BadForm
 
@@ -61,6 +62,7 @@ match_key Prefix = PREFIX.now
 match_key Suffix = SUFFIX.now
 match_key Contains = CONTAINS.now
 
+-- the text under the alternative of its kind, and `ignore_case` where it is `true`
 unfoldable pub string_written : StringMatcher → Data
 string_written m = object_of (field (match_key m.kind) (string m.text) ∷ truth_field IGNORE_CASE.now m.ignore_case ∷ [])
 
@@ -73,5 +75,6 @@ may_be_empty Prefix = false
 may_be_empty Suffix = false
 may_be_empty Contains = false
 
+-- a matcher of the whole text, or with a text that is not empty
 unfoldable pub string_is_printable : StringMatcher → Bool
 string_is_printable m = may_be_empty m.kind || is_filled m.text

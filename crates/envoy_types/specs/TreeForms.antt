@@ -108,6 +108,7 @@ abbrev pub any_tree : {L : Type 0} → Tree L
 any_tree = tree_of Node.Any
 
 abbrev mutual
+  -- the tree of the alternative
   pub tree_in : {L : Type 0} → TreeForm L → Data → Tree L
   tree_in form null = any_tree
   tree_in form (boolean b) = any_tree
@@ -126,6 +127,7 @@ abbrev mutual
       else if bytes_eq key ANY.now then any_tree
       else tree_of (Node.Leaf (form.leaf_in key d))
 
+  -- the trees of the set
   pub parts_in : {L : Type 0} → TreeForm L → Data → List (Tree L)
   parts_in form null = []
   parts_in form (boolean b) = []
@@ -134,10 +136,12 @@ abbrev mutual
   parts_in form (array ds) = []
   parts_in form (object ms) = parts_field_in form ms
 
+  -- those of its field
   pub parts_field_in : {L : Type 0} → TreeForm L → Members → List (Tree L)
   parts_field_in form no_members = []
   parts_field_in form (member key d ms) = if bytes_eq key form.parts_name then trees_in form d else parts_field_in form ms
 
+  -- the trees of a list, in their order
   pub trees_in : {L : Type 0} → TreeForm L → Data → List (Tree L)
   trees_in form null = []
   trees_in form (boolean b) = []
@@ -146,6 +150,7 @@ abbrev mutual
   trees_in form (object ms) = []
   trees_in form (array ds) = each_tree_in form ds
 
+  -- of its entries
   pub each_tree_in : {L : Type 0} → TreeForm L → Items → List (Tree L)
   each_tree_in form no_items = []
   each_tree_in form (item d ds) = tree_in form d ∷ each_tree_in form ds
@@ -160,6 +165,7 @@ node_written form (Node-F.And parts) = sole_field form.and_name (sole_field form
 node_written form (Node-F.Or parts) = sole_field form.or_name (sole_field form.parts_name (array (items_of parts)))
 node_written form (Node-F.Not part) = sole_field form.not_name part
 
+-- a tree, from its leaves up
 abbrev pub tree_written : {L : Type 0} → TreeForm L → Tree L → Data
 tree_written {L} form = fold-Tree L Data Data (node_written form) (λ t. t.node)
 
@@ -173,6 +179,7 @@ node_is_printable form (Node-F.And parts) = is_within 1 most_entries (length par
 node_is_printable form (Node-F.Or parts) = is_within 1 most_entries (length parts) && list_all (λ printable. printable) parts
 node_is_printable form (Node-F.Not part) = part
 
+-- a full tree of leaves that can be written, with each list within its limit
 abbrev pub tree_is_printable : {L : Type 0} → TreeForm L → Tree L → Bool
 tree_is_printable {L} form = fold-Tree L Bool Bool (node_is_printable form) (λ t. t.node)
 
@@ -182,9 +189,11 @@ tree_is_printable {L} form = fold-Tree L Bool Bool (node_is_printable form) (λ 
 unfoldable pub tree_list_faults : {L : Type 0} → TreeForm L → Check
 tree_list_faults form d at = trees_faults form d at
 
+-- the trees, in their order
 unfoldable pub tree_list_in : {L : Type 0} → TreeForm L → Data → List (Tree L)
 tree_list_in form d = trees_in form d
 
+-- one tree at least, within the limit of lists, and each can be written
 unfoldable pub tree_list_is_printable : {L : Type 0} → TreeForm L → List (Tree L) → Bool
 tree_list_is_printable form trees = is_within 1 most_entries (length trees) && list_all (tree_is_printable form) trees
 

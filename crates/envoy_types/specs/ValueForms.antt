@@ -25,6 +25,7 @@ one_of_faults =
     ⨾ optional_written PRESENT_MATCH.now true_faults
     ⨾ optional_written STRING_MATCH.now string_faults)
 
+-- the entry matches, or else it is there
 unfoldable pub one_of_in : Data → ValueMatcher
 one_of_in d = unwrap_or (optional_written_in STRING_MATCH.now (λ m. OneOf (string_in m)) d) OneOfPresent
 
@@ -32,6 +33,7 @@ one_of_in d = unwrap_or (optional_written_in STRING_MATCH.now (λ m. OneOf (stri
 unfoldable pub list_match_faults : Check
 list_match_faults = strict (ONE_OF.now ∷ []) (required_written ONE_OF.now one_of_faults)
 
+-- what is asked of the entry
 unfoldable pub list_match_in : Data → ValueMatcher
 list_match_in d = required_written_in ONE_OF.now one_of_in d
 
@@ -44,6 +46,7 @@ value_faults =
     ⨾ optional_written STRING_MATCH.now string_faults
     ⨾ optional_written LIST_MATCH.now list_match_faults)
 
+-- the text matches, an entry of the list does, or else the value is there
 unfoldable pub value_in : Data → ValueMatcher
 value_in d =
     unwrap_or (optional_written_in STRING_MATCH.now (λ m. Words (string_in m)) d)
@@ -53,12 +56,14 @@ value_in d =
 abbrev pub list_match_written : Data → Data
 list_match_written entry = sole_field LIST_MATCH.now (sole_field ONE_OF.now entry)
 
+-- the one alternative of each
 unfoldable pub value_written : ValueMatcher → Data
 value_written Present = sole_field PRESENT_MATCH.now (boolean true)
 value_written (Words m) = sole_field STRING_MATCH.now (string_written m)
 value_written OneOfPresent = list_match_written (sole_field PRESENT_MATCH.now (boolean true))
 value_written (OneOf m) = list_match_written (sole_field STRING_MATCH.now (string_written m))
 
+-- what compares nothing, or a matcher that can be written
 unfoldable pub value_is_printable : ValueMatcher → Bool
 value_is_printable Present = true
 value_is_printable (Words m) = string_is_printable m
@@ -71,9 +76,11 @@ value_is_printable (OneOf m) = string_is_printable m
 unfoldable pub segment_faults : Check → Check
 segment_faults f = strict (KEY.now ∷ []) (required_written KEY.now f)
 
+-- the key
 unfoldable pub segment_in : Data → List ℕ
 segment_in d = required_written_in KEY.now text_in d
 
+-- a key as an object
 abbrev pub segment_written : List ℕ → Data
 segment_written key = sole_field KEY.now (string key)
 
@@ -90,9 +97,11 @@ abbrev pub behind_first : List (List ℕ) → List (List ℕ)
 behind_first [] = []
 behind_first (key ∷ keys) = keys
 
+-- the keys behind `payload`
 unfoldable pub path_in : Data → List (List ℕ)
 path_in d = behind_first (list_in segment_in d)
 
+-- `payload`, and then the keys
 abbrev pub path_written : List (List ℕ) → Data
 path_written keys = list_written segment_written (PAYLOAD.now ∷ keys)
 
@@ -106,6 +115,7 @@ metadata_faults =
     ⨾ required_written PATH.now path_faults
     ⨾ required_written VALUE.now value_faults)
 
+-- the keys and what is asked, of what the token filter left
 unfoldable pub metadata_written : List (List ℕ) → ValueMatcher → Data
 metadata_written keys value = object_of
     (field FILTER.now (string JWT_NAME.now)
@@ -113,5 +123,6 @@ metadata_written keys value = object_of
     ∷ field VALUE.now (value_written value)
     ∷ [])
 
+-- one key at least, which with `payload` are within the limit of lists, and what is asked can be written
 unfoldable pub metadata_is_printable : List (List ℕ) → ValueMatcher → Bool
 metadata_is_printable keys value = is_within 2 most_entries (length keys + 1) && value_is_printable value

@@ -1,4 +1,9 @@
-// The filter that judges tokens.
+// The filter that judges tokens, and its providers by their names.
+ghost use Rattle.std.specs.Prelude.{◌≡◌, IsTrue};
+ghost use Rattle.std.specs.Option.{option_copied};
+ghost use Rattle.envoy_types.specs.Jwt as jwt;
+ghost use Rattle.envoy_types.specs.Order.{names_rise};
+
 use mesh_policy::JwtRule;
 use mesh_text::{List, Text};
 use std::marker::Model;
@@ -67,4 +72,17 @@ pub enum Requirement {
         names: List<Text>,
         allow_missing: bool,
     },
+}
+
+/// The provider of a name among those of a filter, which stand in byte order of distinct names; None where none bears
+/// it. The search halves what is left, so that it compares about as many names as the count of the providers has binary
+/// digits. It takes no memory.
+pub fn provider_named<'a>(providers: &'a [JwtProvider], name: &str) -> Option<&'a JwtProvider>
+    requires { IsTrue (names_rise (λ provider. provider.name) providers.now) }
+    ensures { option_copied result ≡ jwt.provider_named providers.now name.now }
+{
+    match providers.binary_search_by(|provider| provider.name.as_str().cmp(name)) {
+        Ok(at) => Some(&providers[at]),
+        Err(_) => None,
+    }
 }

@@ -25,7 +25,7 @@ pub use chains::{
     ChainBody, ChainMatch, FilterChain, HttpFilter, Listener, NetworkFilter, Transport,
 };
 pub use headers::{HeaderMatch, HeaderTest};
-pub use jwt::{JwtAuthn, JwtCheck, JwtProvider, Requirement};
+pub use jwt::{JwtAuthn, JwtCheck, JwtProvider, Requirement, provider_named};
 pub use laws::written_spells;
 pub use metadata::ValueMatcher;
 pub use names::{

@@ -10,13 +10,15 @@ use Rattle.mesh_doc.specs.declared.reason.Reason.TheVariants.{DuplicateMatch}
 use Rattle.envoy_types.specs.ChainForms.{clashes_with_one, duplicates}
 use Rattle.envoy_types.specs.declared.chains.FilterChain.{FilterChain}
 use Rattle.listener_json.specs.Targets.{Kind, has, one_is_for}
+use Rattle.listener_json.specs.declared.read_clashes.Key.{Key}
 
 -- a refusal is that of any faults with the same first one
 pub same-refusal : (e : DocError) (fs gs : Faults) → first fs ≡ first gs → Refuses e fs → Refuses e gs
 same-refusal (error.Fault f) fs gs same h = sym same ∙ h
 same-refusal error.Memory fs gs same h = tt
 
-module _ (chains : List FilterChain) (i : ℕ) (chain : FilterChain) (at : Steps) (inside : i < length chains) (is : chain ≡ get_or chains i chain) where
+module _ (chains : List FilterChain) (i : ℕ) (chain : FilterChain) (at : Steps) (inside : i < length chains)
+    (is : chain ≡ get_or chains i chain) where
   at-chain : duplicates (take i chains) i (drop i chains) at
       ≡ joined (unless (not (clashes_with_one (take i chains) chain)) DuplicateMatch (at_index i at))
       (duplicates (take (i + 1) chains) (i + 1) (drop (i + 1) chains) at)
@@ -35,6 +37,6 @@ module _ (chains : List FilterChain) (i : ℕ) (chain : FilterChain) (at : Steps
   passing h = ap first at-chain ∙ rw h refl
 
 -- no kind is there yet
-pub nothing : (kinds : BTreeSet Kind) → kinds.keys ≡ [] → (code : ℕ) (name : List ℕ) → has kinds code name ≡ one_is_for [] code name
+pub nothing : (kinds : BTreeSet Key) → kinds.keys ≡ [] → (kind : Kind) → has kinds kind ≡ one_is_for [] kind
 unfolding has one_is_for
-nothing kinds e code name = rw e refl
+nothing kinds e kind = rw e refl

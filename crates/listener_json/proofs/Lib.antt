@@ -1,11 +1,29 @@
-mod Chosen
-mod Duplicates
-mod Endings
-mod Entries
-mod FewChains
-mod HeadersFirst
-mod KindSets
-mod LookedUp
-mod NamedOnto
-mod Options
-mod Rising
+pub mod AuthzPrintable
+pub mod BlocksPrintable
+pub mod ChainsPrintable
+pub mod Chosen
+pub mod Duplicates
+pub mod Endings
+pub mod Entries
+pub mod FewChains
+pub mod FiltersPrintable
+pub mod HeadersFirst
+pub mod HeadersPrintable
+pub mod JwtPrintable
+pub mod KindSets
+pub mod KnownNames
+pub mod ListenerPrintable
+pub mod LookedUp
+pub mod NamedOnto
+pub mod Options
+pub mod PartsPrintable
+pub mod PermissionsPrintable
+pub mod PrincipalsPrintable
+pub mod ProvidersPrintable
+pub mod RbacPrintable
+pub mod ReadBack
+pub mod RequirementsPrintable
+pub mod Rising
+pub mod StringsPrintable
+pub mod TreesPrintable
+pub mod ValuesPrintable

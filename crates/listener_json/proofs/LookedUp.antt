@@ -1,14 +1,12 @@
 -- Chains clash exactly where they are for one kind of connections.
-use Rattle.std.proofs.Common.{◌≡◌, ℕ, ◌+◌, ◌*◌, ◌≤◌, ◌==◌, Bool, true, false, ◌&&◌, ◌||◌, List, [], ◌∷◌, Option, Some, None, refl, sym, ap, ◌∙◌, arith, eqb-true, eq-eqb, lit≤}
-use Rattle.std.proofs.lemmas.Bool.{and_parts}
+use Rattle.std.proofs.Common.{◌≡◌, ◌==◌, ℕ, Bool, true, false, ◌&&◌, ◌||◌, List, [], ◌∷◌, length, map, Option, Some, None, refl, sym, ap, ◌∙◌}
+use Rattle.std.proofs.Math.Dec.{eqb-suc-zero}
 use Rattle.std.specs.List.{list_any}
 use Rattle.std.specs.Str.{bytes_eq}
 use Rattle.envoy_types.specs.ChainForms.{clashes, clashes_with_one, names_meet, same_port, same_protocol}
 use Rattle.envoy_types.specs.declared.chains.ChainMatch.{ChainMatch}
 use Rattle.envoy_types.specs.declared.chains.FilterChain.{FilterChain}
-use Rattle.envoy_types.specs.declared.chains.Transport.{Transport}
-use Rattle.envoy_types.specs.declared.chains.Transport.TheVariants as transport
-use Rattle.listener_json.specs.Targets.{code_of, is_for, names_code, names_of, one_is_for, port_code, transport_code}
+use Rattle.listener_json.specs.Targets.{Kind, is_for, kind_of, kinds_of, names_of, one_is_for, same, same_name}
 
 -- ---- tests of lists
 
@@ -36,101 +34,80 @@ any-swap r [] ys = sym (any-false ys)
 any-swap r (x ∷ xs) ys =
     ap (λ b. list_any (λ y. r x y) ys || b) (any-swap r xs ys) ∙ sym (any-or (λ y. r x y) (λ y. list_any (λ x. r x y) xs) ys)
 
+any-map : {A B : Type 0} (p : B → Bool) (h : A → B) (xs : List A) → list_any p (map h xs) ≡ list_any (λ x. p (h x)) xs
+any-map p h [] = refl
+any-map p h (x ∷ xs) = ap (λ b. p (h x) || b) (any-map p h xs)
+
 pub any-same : {A : Type 0} (p q : A → Bool) → ((x : A) → p x ≡ q x) → (xs : List A) → list_any p xs ≡ list_any q xs
 any-same p q same [] = refl
 any-same p q same (x ∷ xs) = rw (same x, any-same p q same xs) refl
 
--- ---- the three numbers, and the one
+-- ---- the kinds of one chain
 
-same-truth : (a b : Bool) → (a ≡ true → b ≡ true) → (b ≡ true → a ≡ true) → a ≡ b
-same-truth true b f g = sym (f refl)
-same-truth false true f g = g refl
-same-truth false false f g = refl
+or_false : (b : Bool) → (b || false) ≡ b
+or_false true = refl
+or_false false = refl
 
-ports : (p q : Option ℕ) → same_port p q ≡ (port_code p == port_code q)
-ports None None = refl
-ports None (Some q) = same-truth _ _ (λ h. cc) (λ h. absurd (omega (arith, eqb-true 0 (q + 1) h)))
-ports (Some p) None = same-truth _ _ (λ h. cc) (λ h. absurd (omega (arith, eqb-true (p + 1) 0 h)))
-ports (Some p) (Some q) =
-    same-truth _ _ (λ h. eq-eqb (p + 1) (q + 1) (omega (arith, eqb-true p q h))) (λ h. eq-eqb p q (omega (arith, eqb-true (p + 1) (q + 1) h)))
+no-items : {A : Type 0} (xs : List A) → (length xs == 0) ≡ true → xs ≡ []
+no-items [] h = refl
+no-items (x ∷ xs) h = absurd (at (length (x ∷ xs) == 0) (eqb-suc-zero (length xs)) h) where
+  at : (b : Bool) → b ≡ false → b ≡ true → ⊥
+  at true e k = cc
+  at false e k = cc
 
-transports : (t u : Option Transport) → same_protocol t u ≡ (transport_code t == transport_code u)
-transports None None = refl
-transports None (Some transport.RawBuffer) = refl
-transports None (Some transport.Tls) = refl
-transports (Some transport.RawBuffer) None = refl
-transports (Some transport.Tls) None = refl
-transports (Some transport.RawBuffer) (Some transport.RawBuffer) = refl
-transports (Some transport.RawBuffer) (Some transport.Tls) = refl
-transports (Some transport.Tls) (Some transport.RawBuffer) = refl
-transports (Some transport.Tls) (Some transport.Tls) = refl
+without-names : (p : Option (List ℕ) → Bool) (names : List (List ℕ)) → names ≡ [] → list_any p (names_of names) ≡ p None
+without-names p names e = rw e (or_false (p None))
 
-pub few-transports : (t : Option Transport) → transport_code t ≤ 2
-few-transports None = lit≤ tt
-few-transports (Some transport.RawBuffer) = lit≤ tt
-few-transports (Some transport.Tls) = lit≤ tt
+with-names : (p : Option (List ℕ) → Bool) (name : List ℕ) (names : List (List ℕ))
+    → list_any p (names_of (name ∷ names)) ≡ list_any (λ n. p (Some n)) (name ∷ names)
+with-names p name names = any-map p Some (name ∷ names)
 
-pub few-names : (names : List (List ℕ)) → names_code names ≤ 1
-few-names [] = lit≤ tt
-few-names (name ∷ names) = lit≤ tt
+by-names : (p : Option (List ℕ) → Bool) (names : List (List ℕ)) → (length names == 0) ≡ false
+    → list_any p (names_of names) ≡ list_any (λ n. p (Some n)) names
+by-names p [] h = cc
+by-names p (name ∷ names) h = with-names p name names
 
-both-true : (a b : Bool) → a ≡ true → b ≡ true → (a && b) ≡ true
-both-true true b h k = k
-both-true false b h k = h
+pub sole-kind : (p : Kind → Bool) (matching : ChainMatch) → (length matching.alpn == 0) ≡ true
+    → list_any p (kinds_of matching) ≡ p (kind_of matching None)
+sole-kind p matching h =
+    any-map p (kind_of matching) (names_of matching.alpn)
+    ∙ without-names (λ n. p (kind_of matching n)) matching.alpn (no-items matching.alpn h)
 
-one-number : (p q t u m n : ℕ) → t ≤ 2 → u ≤ 2 → m ≤ 1 → n ≤ 1
-    → (p * 6 + (t * 2 + m) == q * 6 + (u * 2 + n)) ≡ (((p == q) && (t == u)) && (m == n))
-one-number p q t u m n ht hu hm hn = same-truth _ _
-    (λ h. let e : p * 6 + (t * 2 + m) ≡ q * 6 + (u * 2 + n) = eqb-true _ _ h in
-    both-true _ _ (both-true _ _ (eq-eqb p q (omega arith)) (eq-eqb t u (omega arith))) (eq-eqb m n (omega arith)))
-    (λ h. let parts = and_parts ((p == q) && (t == u)) (m == n) h in
-    let front = and_parts (p == q) (t == u) parts.0 in
-    eq-eqb _ _ (omega (arith, eqb-true p q front.0, eqb-true t u front.1, eqb-true m n parts.1)))
-
-codes : (a b : ChainMatch) → (code_of a == code_of b)
-    ≡ ((same_port a.port b.port && same_protocol a.transport b.transport) && (names_code a.alpn == names_code b.alpn))
-unfolding code_of
-codes a b =
-    one-number (port_code a.port) (port_code b.port) (transport_code a.transport) (transport_code b.transport) (names_code a.alpn)
-    (names_code b.alpn) (few-transports a.transport) (few-transports b.transport) (few-names a.alpn) (few-names b.alpn)
-    ∙ rw (ports a.port b.port, transports a.transport b.transport) refl
+pub named-kinds : (p : Kind → Bool) (matching : ChainMatch) → (length matching.alpn == 0) ≡ false
+    → list_any p (kinds_of matching) ≡ list_any (λ n. p (kind_of matching (Some n))) matching.alpn
+named-kinds p matching h =
+    any-map p (kind_of matching) (names_of matching.alpn) ∙ by-names (λ n. p (kind_of matching n)) matching.alpn h
 
 -- ---- the names
 
-meets : (xs ys : List (List ℕ))
-    → names_meet xs ys ≡ ((names_code xs == names_code ys) && list_any (λ x. list_any (λ y. bytes_eq x y) (names_of ys)) (names_of xs))
+meets : (xs ys : List (List ℕ)) → names_meet xs ys ≡ list_any (λ x. list_any (λ y. same_name x y) (names_of ys)) (names_of xs)
 meets [] [] = refl
-meets [] (y ∷ ys) = refl
-meets (x ∷ xs) [] = any-false (x ∷ xs)
-meets (x ∷ xs) (y ∷ ys) = refl
-
-and-assoc : (a b c : Bool) → (a && (b && c)) ≡ ((a && b) && c)
-and-assoc true b c = refl
-and-assoc false b c = refl
+meets [] (y ∷ ys) = sym (or_false _ ∙ with-names (λ n. same_name None n) y ys ∙ any-false (y ∷ ys))
+meets (x ∷ xs) [] = sym (with-names (λ n. same_name n None || false) x xs)
+meets (x ∷ xs) (y ∷ ys) =
+    sym (with-names (λ n. list_any (λ m. same_name n m) (names_of (y ∷ ys))) x xs
+    ∙ any-same _ _ (λ n. with-names (λ m. same_name (Some n) m) y ys) (x ∷ xs))
 
 -- ---- and chains
 
-clash : (a b : ChainMatch) → clashes a b
-    ≡ ((code_of a == code_of b) && list_any (λ x. list_any (λ y. bytes_eq x y) (names_of b.alpn)) (names_of a.alpn))
+clash : (a b : ChainMatch) → clashes a b ≡ list_any (λ k. list_any (λ l. same k l) (kinds_of b)) (kinds_of a)
 unfolding clashes
 clash a b =
-    ap (λ m. (same_port a.port b.port && same_protocol a.transport b.transport) && m) (meets a.alpn b.alpn)
-    ∙ and-assoc (same_port a.port b.port && same_protocol a.transport b.transport) (names_code a.alpn == names_code b.alpn) _
-    ∙ ap (λ c. c && list_any (λ x. list_any (λ y. bytes_eq x y) (names_of b.alpn)) (names_of a.alpn)) (sym (codes a b))
+    let front = same_port a.port b.port && same_protocol a.transport b.transport in
+    ap (λ m. front && m) (meets a.alpn b.alpn)
+    ∙ sym (any-map (λ k. list_any (λ l. same k l) (kinds_of b)) (kind_of a) (names_of a.alpn)
+    ∙ any-same _ _ (λ x. any-map (λ l. same (kind_of a x) l) (kind_of b) (names_of b.alpn)
+    ∙ any-and front (λ y. same_name x y) (names_of b.alpn)) (names_of a.alpn)
+    ∙ any-and front (λ x. list_any (λ y. same_name x y) (names_of b.alpn)) (names_of a.alpn))
 
-is-for-one : (a b : ChainMatch) → clashes a b ≡ list_any (λ n. is_for (code_of b) n a) (names_of b.alpn)
-is-for-one a b =
-    clash a b
-    ∙ ap (λ m. (code_of a == code_of b) && m) (any-swap (λ x y. bytes_eq x y) (names_of a.alpn) (names_of b.alpn))
-    ∙ sym (any-and (code_of a == code_of b) (λ n. list_any (λ x. bytes_eq x n) (names_of a.alpn)) (names_of b.alpn))
+is-for-one : (a b : ChainMatch) → clashes a b ≡ list_any (λ kind. is_for kind a) (kinds_of b)
+is-for-one a b = clash a b ∙ any-swap (λ k l. same k l) (kinds_of a) (kinds_of b)
 
-pub looked-up : (earlier : List FilterChain) (chain : FilterChain) → clashes_with_one earlier chain
-    ≡ list_any (λ n. one_is_for earlier (code_of chain.matching) n) (names_of chain.matching.alpn)
+pub looked-up : (earlier : List FilterChain) (chain : FilterChain)
+    → clashes_with_one earlier chain ≡ list_any (λ kind. one_is_for earlier kind) (kinds_of chain.matching)
 unfolding one_is_for
-looked-up [] chain = sym (any-false (names_of chain.matching.alpn))
+looked-up [] chain = sym (any-false (kinds_of chain.matching))
 looked-up (other ∷ earlier) chain =
     ap (λ b. b || clashes_with_one earlier chain) (is-for-one other.matching chain.matching)
-    ∙ ap (λ b. list_any (λ n. is_for (code_of chain.matching) n other.matching) (names_of chain.matching.alpn) || b)
-    (looked-up earlier chain)
-    ∙ sym (any-or (λ n. is_for (code_of chain.matching) n other.matching)
-    (λ n. one_is_for earlier (code_of chain.matching) n) (names_of chain.matching.alpn))
+    ∙ ap (λ b. list_any (λ kind. is_for kind other.matching) (kinds_of chain.matching) || b) (looked-up earlier chain)
+    ∙ sym (any-or (λ kind. is_for kind other.matching) (λ kind. one_is_for earlier kind) (kinds_of chain.matching))

@@ -1,54 +1,73 @@
 -- The kinds of connections that filter chains are for: a port, a transport protocol and an application protocol, each of them or
 -- none. Two chains clash where they are for one kind, so that each kind is looked up among those of the earlier chains.
-use Rattle.std.specs.Prelude.{ℕ, ◌+◌, ◌*◌, ◌==◌, Bool, ◌&&◌, List, [], ◌∷◌, Option, Some, None}
-use denote.Ref.{Bor}
+use Rattle.std.specs.Prelude.{ℕ, Bool, true, false, ◌&&◌, List, [], ◌∷◌, map, Option, Some, None}
 use Rattle.std.specs.BTreeSet.{BTreeSet}
 use Rattle.std.specs.List.{list_any}
+use Rattle.std.specs.Option.{option_copied}
 use Rattle.std.specs.Str.{bytes_eq}
+use Rattle.envoy_types.specs.ChainForms.{same_port, same_protocol}
 use Rattle.envoy_types.specs.declared.chains.ChainMatch.{ChainMatch}
 use Rattle.envoy_types.specs.declared.chains.FilterChain.{FilterChain}
 use Rattle.envoy_types.specs.declared.chains.Transport.{Transport}
 use Rattle.envoy_types.specs.declared.chains.Transport.TheVariants as transport
+use Rattle.listener_json.specs.declared.read_clashes.Key.{Key}
+use Rattle.listener_json.specs.declared.read_clashes.Protocol.{Protocol}
+use Rattle.listener_json.specs.declared.read_clashes.Protocol.TheVariants as protocol
 
--- the port, or none
-abbrev pub port_code : Option ℕ → ℕ
-port_code None = 0
-port_code (Some port) = port + 1
+-- a kind of connections
+pub record Kind : Type 0 where
+  -- the destination port, or none
+  pub port : Option ℕ
+  -- the transport protocol, or none
+  pub transport : Option Transport
+  -- the application protocol, or none
+  pub name : Option (List ℕ)
 
--- the transport protocol, or none
-abbrev pub transport_code : Option Transport → ℕ
-transport_code None = 0
-transport_code (Some transport.RawBuffer) = 1
-transport_code (Some transport.Tls) = 2
+-- the same application protocol, or none in both
+abbrev pub same_name : Option (List ℕ) → Option (List ℕ) → Bool
+same_name None None = true
+same_name None (Some name) = false
+same_name (Some name) None = false
+same_name (Some name) (Some other) = bytes_eq name other
 
--- whether there are application protocols
-abbrev pub names_code : List (List ℕ) → ℕ
-names_code [] = 0
-names_code (name ∷ names) = 1
+-- all three are the same
+abbrev pub same : Kind → Kind → Bool
+same kind other =
+    (same_port kind.port other.port && same_protocol kind.transport other.transport) && same_name kind.name other.name
 
--- the three as one number
-unfoldable pub code_of : ChainMatch → ℕ
-code_of matching = port_code matching.port * 6 + (transport_code matching.transport * 2 + names_code matching.alpn)
+-- the application protocols one by one, where the empty list has none
+abbrev pub names_of : List (List ℕ) → List (Option (List ℕ))
+names_of [] = None ∷ []
+names_of (name ∷ names) = map Some (name ∷ names)
 
--- the application protocols, with the empty name for none
-abbrev pub names_of : List (List ℕ) → List (List ℕ)
-names_of [] = [] ∷ []
-names_of (name ∷ names) = name ∷ names
+-- the port and the transport protocol of a chain with an application protocol
+abbrev pub kind_of : ChainMatch → Option (List ℕ) → Kind
+kind_of matching name = record { port = matching.port; transport = matching.transport; name = name }
+
+-- the kinds that the chain is for
+abbrev pub kinds_of : ChainMatch → List Kind
+kinds_of matching = map (kind_of matching) (names_of matching.alpn)
 
 -- the chain is for connections of this kind
-abbrev pub is_for : ℕ → List ℕ → ChainMatch → Bool
-is_for code name matching = (code_of matching == code) && list_any (λ n. bytes_eq n name) (names_of matching.alpn)
+abbrev pub is_for : Kind → ChainMatch → Bool
+is_for kind matching = list_any (λ own. same own kind) (kinds_of matching)
 
 -- one of the chains is
-unfoldable pub one_is_for : List FilterChain → ℕ → List ℕ → Bool
-one_is_for chains code name = list_any (λ chain. is_for code name chain.matching) chains
+unfoldable pub one_is_for : List FilterChain → Kind → Bool
+one_is_for chains kind = list_any (λ chain. is_for kind chain.matching) chains
 
 -- ---- kinds that are kept in a set
 
--- a kind of connections, by its number and its application protocol
-abbrev pub Kind : Type 0
-Kind = ℕ × Bor (List ℕ)
+-- the transport protocol that is kept, or none
+abbrev pub transport_of : Protocol → Option Transport
+transport_of protocol.Unnamed = None
+transport_of protocol.RawBuffer = Some transport.RawBuffer
+transport_of protocol.Tls = Some transport.Tls
+
+-- the kind that is kept
+abbrev pub kind_in : Key → Kind
+kind_in key = record { port = key.port; transport = transport_of key.protocol; name = option_copied key.name }
 
 -- the set has this kind
-unfoldable pub has : BTreeSet Kind → ℕ → List ℕ → Bool
-has kinds code name = list_any (λ k. (code == k.0) && bytes_eq name k.1.now) kinds.keys
+unfoldable pub has : BTreeSet Key → Kind → Bool
+has kinds kind = list_any (λ key. same kind (kind_in key)) kinds.keys

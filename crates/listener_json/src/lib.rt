@@ -31,4 +31,4 @@ mod sockets;
 
 pub use listener::to_value;
 pub use read_listener::from_value;
-pub use round_trip::{read_back, read_back_text};
+pub use round_trip::{read_back_text, read_can_be_written, written_is_read};

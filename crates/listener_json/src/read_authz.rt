@@ -1,8 +1,11 @@
 //! Filters of external authorization, read from JSON.
+ghost use Rattle.std.specs.Prelude.{false, unwrap_or};
 ghost use Rattle.serde_json.specs.View.{view};
-ghost use Rattle.mesh_doc.specs.Faults.{Reads};
+ghost use Rattle.mesh_doc.specs.Faults.{Reads, ◌⨾◌};
 ghost use Rattle.mesh_doc.specs.Fields as fields;
+ghost use Rattle.mesh_doc.specs.Kinds.{truth_faults, truth_in};
 ghost use Rattle.envoy_types.specs.AuthzForms as form;
+ghost use Rattle.envoy_types.specs.SmallForms.{type_faults};
 ghost use Rattle.envoy_types.specs.declared.keys.TheConstants as keys;
 
 use crate::read_lists::{Plain, Sole, required_with};
@@ -63,15 +66,19 @@ impl Form for HttpConfig {
             ],
         )?;
         one_of(alloc, v, &[GRPC_SERVICE, HTTP_SERVICE], at)?;
-        fixed_field(alloc, v, TYPE, HTTP_AUTHZ_TYPE, at)?;
-        let fail_open = optional_written::<AnyTruth>(alloc, v, FAILURE_MODE_ALLOW, at)?;
-        let (enabled_key, enabled) = enabled_field(alloc, v, HTTP_RBAC_NAME, at)?;
+        let (fail_open, enabled_key, enabled) = beginning(
+            alloc,
+            v,
+            HTTP_AUTHZ_TYPE,
+            HTTP_RBAC_NAME,
+            at,
+        )?;
         let grpc = optional_written::<GrpcService>(alloc, v, GRPC_SERVICE, at)?;
         let service = or_second::<HttpService>(alloc, grpc, v, GRPC_SERVICE, HTTP_SERVICE, at)?;
         fixed_field(alloc, v, TRANSPORT_API_VERSION, API_VERSION, at)?;
         Ok(ExtAuthz {
             service,
-            fail_open: fail_open.unwrap_or(false),
+            fail_open,
             enabled_key,
             enabled,
         })
@@ -101,19 +108,47 @@ impl Form for NetworkConfig {
                 TRANSPORT_API_VERSION,
             ],
         )?;
-        fixed_field(alloc, v, TYPE, NETWORK_AUTHZ_TYPE, at)?;
-        let fail_open = optional_written::<AnyTruth>(alloc, v, FAILURE_MODE_ALLOW, at)?;
-        let (enabled_key, enabled) = enabled_field(alloc, v, NETWORK_RBAC_NAME, at)?;
+        let (fail_open, enabled_key, enabled) = beginning(
+            alloc,
+            v,
+            NETWORK_AUTHZ_TYPE,
+            NETWORK_RBAC_NAME,
+            at,
+        )?;
         let service = grpc_alone(alloc, v, at)?;
         fixed_field(alloc, v, STAT_PREFIX, TCP_PREFIX, at)?;
         fixed_field(alloc, v, TRANSPORT_API_VERSION, API_VERSION, at)?;
         Ok(ExtAuthz {
             service,
-            fail_open: fail_open.unwrap_or(false),
+            fail_open,
             enabled_key,
             enabled,
         })
     }
+}
+
+// What both configurations begin with, by the type URL and the name of the RBAC filter whose metadata is looked at: whether
+// requests pass where the authorizer fails, and when it is asked.
+fn beginning(
+    alloc: Global,
+    v: &Value,
+    type_url: &str,
+    rbac_name: &str,
+    at: &Spot,
+) -> Result<(bool, Text, StringMatcher), DocError>
+    ensures { Reads result
+        ((type_faults type_url.now
+        ⨾ fields.optional_written keys.FAILURE_MODE_ALLOW.now truth_faults
+        ⨾ fields.required_written keys.FILTER_ENABLED_METADATA.now (form.enabled_faults rbac_name.now)) (view v.now) at.now) (
+          unwrap_or (fields.optional_written_in keys.FAILURE_MODE_ALLOW.now truth_in (view v.now)) false,
+          fields.required_written_in keys.FILTER_ENABLED_METADATA.now form.enabled_key_in (view v.now),
+          fields.required_written_in keys.FILTER_ENABLED_METADATA.now form.enabled_in (view v.now),
+        ) }
+{
+    fixed_field(alloc, v, TYPE, type_url, at)?;
+    let fail_open = optional_written::<AnyTruth>(alloc, v, FAILURE_MODE_ALLOW, at)?;
+    let (enabled_key, enabled) = enabled_field(alloc, v, rbac_name, at)?;
+    Ok((fail_open.unwrap_or(false), enabled_key, enabled))
 }
 
 // The service where there is but one form of it.

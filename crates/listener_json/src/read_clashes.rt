@@ -1,17 +1,34 @@
 //! Chains that take the same connections as an earlier one. The kinds of connections that the earlier ones are for are kept in a
 //! set, so that no two chains are compared.
-ghost use Rattle.std.specs.Prelude.{◌≡◌, ◌<◌, ◌^◌, ◌==◌, ◌&&◌, ◌||◌, ℕ, List, [], OnOk, length};
+ghost use Rattle.std.specs.Prelude.{◌≡◌, ◌<◌, ◌^◌, ◌||◌, [], OnOk, Some, length};
 ghost use Rattle.std.specs.List.{list_any};
-ghost use Rattle.std.specs.Str.{bytes_eq};
+ghost use Rattle.std.specs.Option.{option_copied};
 ghost use Rattle.mesh_doc.specs.Faults.{Reads};
 ghost use Rattle.envoy_types.specs.ChainForms as form;
 ghost use Rattle.listener_json.specs.Targets as targets;
+ghost use Rattle.listener_json.specs.Targets.{Kind};
 
 use envoy_types::{ChainMatch, FilterChain, Transport};
 use mesh_doc::{DocError, Reason, Spot};
 use mesh_text::{Memory, Text};
 use std::alloc::Global;
 use std::collections::BTreeSet;
+
+// A kind of connections, as the set keeps it.
+#[derive(Clone, Copy, PartialEq, Eq, PartialOrd, Ord)]
+struct Key<'a> {
+    port: Option<u16>,
+    protocol: Protocol,
+    name: Option<&'a str>,
+}
+
+// The transport protocol of a kind, in an order.
+#[derive(Clone, Copy, PartialEq, Eq, PartialOrd, Ord)]
+enum Protocol {
+    Unnamed,
+    RawBuffer,
+    Tls,
+}
 
 /// DuplicateMatch at the first chain of the list at `at` that clashes with an earlier one.
 pub(crate) fn distinct(alloc: Global, chains: &[FilterChain], at: &Spot) -> Result<(), DocError>
@@ -29,103 +46,81 @@ pub(crate) fn distinct(alloc: Global, chains: &[FilterChain], at: &Spot) -> Resu
 }
 
 // One of the kinds that the chain is for is there.
-fn is_taken<'a>(kinds: &BTreeSet<(u32, &'a str)>, matching: &'a ChainMatch) -> bool
-    ensures { result ≡ list_any (λ n. targets.has kinds.now (targets.code_of matching.now) n) (targets.names_of matching.now.alpn) }
+fn is_taken<'a>(kinds: &BTreeSet<Key<'a>>, matching: &'a ChainMatch) -> bool
+    ensures { result ≡ list_any (λ kind. targets.has kinds.now kind) (targets.kinds_of matching.now) }
 {
-    let code = code_of(matching);
     if matching.alpn.is_empty() {
-        return has(kinds, code, "");
+        return has(kinds, &key_of(matching, None));
     }
-    has_one(kinds, code, &matching.alpn)
+    has_one(kinds, matching, &matching.alpn)
 }
 
-fn has_one<'a>(kinds: &BTreeSet<(u32, &'a str)>, code: u32, names: &'a [Text]) -> bool
-    ensures { result ≡ list_any (λ n. targets.has kinds.now code n) names.now }
+fn has_one<'a>(kinds: &BTreeSet<Key<'a>>, matching: &ChainMatch, names: &'a [Text]) -> bool
+    ensures { result ≡ list_any (λ n. targets.has kinds.now (targets.kind_of matching.now (Some n))) names.now }
 {
     for name in names {
-        if has(kinds, code, name.as_str()) {
+        if has(kinds, &key_of(matching, Some(name.as_str()))) {
             return true;
         }
     }
     false
 }
 
-fn has<'a>(kinds: &BTreeSet<(u32, &'a str)>, code: u32, name: &'a str) -> bool
-    ensures { result ≡ targets.has kinds.now code name.now }
+fn has<'a>(kinds: &BTreeSet<Key<'a>>, key: &Key<'a>) -> bool
+    ensures { result ≡ targets.has kinds.now (targets.kind_in key.now) }
 {
-    kinds.contains(&(code, name))
+    kinds.contains(key)
 }
 
 // The kinds that the chain is for are there from now on.
-fn keep<'a>(kinds: &mut BTreeSet<(u32, &'a str)>, matching: &'a ChainMatch) -> Result<(), Memory>
-    ensures { OnOk result ((code : ℕ) (name : List ℕ) → targets.has kinds.new code name
-        ≡ (targets.has kinds.old code name || targets.is_for code name matching.now)) }
+fn keep<'a>(kinds: &mut BTreeSet<Key<'a>>, matching: &'a ChainMatch) -> Result<(), Memory>
+    ensures { OnOk result ((kind : Kind) → targets.has kinds.new kind
+        ≡ (targets.has kinds.old kind || targets.is_for kind matching.now)) }
 {
-    let code = code_of(matching);
     if matching.alpn.is_empty() {
-        return put(kinds, code, "");
+        return put(kinds, &key_of(matching, None));
     }
-    put_all(kinds, code, &matching.alpn)
+    put_all(kinds, matching, &matching.alpn)
 }
 
 fn put_all<'a>(
-    kinds: &mut BTreeSet<(u32, &'a str)>,
-    code: u32,
+    kinds: &mut BTreeSet<Key<'a>>,
+    matching: &ChainMatch,
     names: &'a [Text],
 ) -> Result<(), Memory>
-    ensures { OnOk result ((c : ℕ) (n : List ℕ) → targets.has kinds.new c n
-        ≡ (targets.has kinds.old c n || ((code == c) && list_any (λ m. bytes_eq m n) names.now))) }
+    ensures { OnOk result ((kind : Kind) → targets.has kinds.new kind
+        ≡ (targets.has kinds.old kind || list_any (λ n. targets.same (targets.kind_of matching.now (Some n)) kind) names.now)) }
 {
     for name in names {
-        put(kinds, code, name.as_str())?;
+        put(kinds, &key_of(matching, Some(name.as_str())))?;
     }
     Ok(())
 }
 
-fn put<'a>(kinds: &mut BTreeSet<(u32, &'a str)>, code: u32, name: &'a str) -> Result<(), Memory>
-    ensures { OnOk result ((c : ℕ) (n : List ℕ) → targets.has kinds.new c n
-        ≡ (targets.has kinds.old c n || ((code == c) && bytes_eq name.now n))) }
+fn put<'a>(kinds: &mut BTreeSet<Key<'a>>, key: &Key<'a>) -> Result<(), Memory>
+    ensures { OnOk result ((kind : Kind) → targets.has kinds.new kind
+        ≡ (targets.has kinds.old kind || targets.same (targets.kind_in key.now) kind)) }
 {
-    kinds.insert((code, name))?;
+    kinds.insert(*key)?;
     Ok(())
 }
 
-// The port, the transport protocol and whether there are application protocols, as one number.
-#[tactic(auto, unfolding(crate::specs::Targets::code_of))]
-fn code_of(matching: &ChainMatch) -> u32
-    ensures { result ≡ targets.code_of matching.now }
+fn key_of<'a>(matching: &ChainMatch, name: Option<&'a str>) -> Key<'a>
+    ensures { targets.kind_in result ≡ targets.kind_of matching.now (option_copied name.entry) }
 {
-    port_code(matching.port) * 6
-        + (transport_code(matching.transport) * 2 + names_code(&matching.alpn))
-}
-
-fn port_code(port: Option<u16>) -> u32
-    ensures value { result ≡ targets.port_code port }
-    ensures small { result < 65537 }
-{
-    match port {
-        None => 0,
-        Some(port) => u32::from(port) + 1,
+    Key {
+        port: matching.port,
+        protocol: protocol_of(matching.transport),
+        name,
     }
 }
 
-fn transport_code(transport: Option<Transport>) -> u32
-    ensures value { result ≡ targets.transport_code transport }
-    ensures small { result < 3 }
+fn protocol_of(transport: Option<Transport>) -> Protocol
+    ensures { targets.transport_of result ≡ transport }
 {
     match transport {
-        None => 0,
-        Some(Transport::RawBuffer) => 1,
-        Some(Transport::Tls) => 2,
-    }
-}
-
-fn names_code(names: &[Text]) -> u32
-    ensures value { result ≡ targets.names_code names.now }
-    ensures small { result < 2 }
-{
-    match names {
-        [] => 0,
-        _ => 1,
+        None => Protocol::Unnamed,
+        Some(Transport::RawBuffer) => Protocol::RawBuffer,
+        Some(Transport::Tls) => Protocol::Tls,
     }
 }

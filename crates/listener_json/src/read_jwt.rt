@@ -7,12 +7,12 @@ ghost use Rattle.envoy_types.specs.declared.keys.TheConstants as keys;
 use crate::read_lists::{Any, FormWith, optional_with, required_with};
 use crate::read_maps::required_members;
 use crate::read_providers::Provider;
-use crate::read_requirements::RequirementForm;
+use crate::read_requirements::{Providers, RequirementForm};
 use envoy_types::keys::{MATCH, PREFIX, PROVIDERS, REQUIRES, RULES, TYPE};
-use envoy_types::{JWT_NAME, JWT_TYPE, JwtAuthn, JwtCheck, JwtProvider};
+use envoy_types::{JWT_NAME, JWT_TYPE, JwtAuthn, JwtCheck};
 use leaf_json::{fixed_field, named};
 use mesh_doc::{AnyText, DocError, Form, Spot, required_written};
-use mesh_text::{List, Text};
+use mesh_text::Text;
 use serde_json::Value;
 use std::alloc::Global;
 
@@ -36,9 +36,13 @@ impl Form for Config {
     fn read(alloc: Global, v: &Value, at: &Spot) -> Result<JwtAuthn, DocError> {
         at.only_fields(alloc, v, &[TYPE, PROVIDERS, RULES])?;
         fixed_field(alloc, v, TYPE, JWT_TYPE, at)?;
-        let providers = required_members::<Provider>(alloc, v, PROVIDERS, at)?;
+        let all = required_members::<Provider>(alloc, v, PROVIDERS, at)?;
+        let providers = Providers { all };
         let rules = required_with::<Any<Check>>(alloc, &providers, v, RULES, at)?;
-        Ok(JwtAuthn { providers, rules })
+        Ok(JwtAuthn {
+            providers: providers.all,
+            rules,
+        })
     }
 }
 
@@ -46,7 +50,7 @@ impl Form for Config {
 struct Check;
 
 impl FormWith for Check {
-    type Given = List<JwtProvider>;
+    type Given = Providers;
 
     type Out = JwtCheck;
 
@@ -55,12 +59,7 @@ impl FormWith for Check {
     ghost value = { form.check_in };
 
     #[tactic(auto, unfolding(envoy_types::specs::JwtForms::check_faults, envoy_types::specs::JwtForms::check_in))]
-    fn read(
-        alloc: Global,
-        given: &List<JwtProvider>,
-        v: &Value,
-        at: &Spot,
-    ) -> Result<JwtCheck, DocError> {
+    fn read(alloc: Global, given: &Providers, v: &Value, at: &Spot) -> Result<JwtCheck, DocError> {
         at.only_fields(alloc, v, &[MATCH, REQUIRES])?;
         let prefix = required_written::<PrefixMatch>(alloc, v, MATCH, at)?;
         let requirement = optional_with::<RequirementForm>(alloc, given, v, REQUIRES, at)?;

@@ -1,5 +1,4 @@
 //! Listeners, read from JSON.
-ghost use Rattle.std.specs.Prelude.{◌≡◌};
 ghost use Rattle.serde_json.specs.View.{view};
 ghost use Rattle.mesh_doc.specs.Faults.{Reads};
 ghost use Rattle.mesh_doc.specs.Fields.{required_written_in};
@@ -26,8 +25,8 @@ const MOST_CHAINS: u32 = 2048;
 
 /// The listener that the value `v` at `place` spells (Envoy v3 API reference, `config.listener.v3.Listener`), or its first
 /// fault: UnknownField, WrongType, MissingField, BadForm or TooMany, and last of all DuplicateMatch. A field that is `null` is
-/// there, and of another kind. What a listener is written in reads back to it. Answers `Memory` where there is no room for the
-/// listener or for the place of a fault.
+/// there, and of another kind. What a listener is written in reads back to it, and what is read can be written. Answers
+/// `Memory` where there is no room for the listener or for the place of a fault.
 pub fn from_value(alloc: Global, v: &Value, place: &Place) -> Result<Listener, DocError>
     ensures { Reads result (form.listener_faults (view v.now) place.now) (form.listener_in (view v.now)) }
 {

@@ -13,18 +13,37 @@ ghost use Rattle.envoy_types.specs.declared.keys.TheConstants as keys;
 
 use crate::read_lists::{FormWith, optional_with, required_with};
 use envoy_types::keys::{ALLOW_MISSING, PROVIDER_NAME, REQUIREMENTS, REQUIRES_ANY};
-use envoy_types::{JwtProvider, Requirement};
+use envoy_types::{JwtProvider, Requirement, provider_named};
 use leaf_json::{MOST_ENTRIES, one_of};
 use mesh_doc::{DocError, Form, Reason, Spot, optional_written, written};
 use mesh_text::{List, Memory, Text};
 use serde_json::Value;
 use std::alloc::Global;
+use std::marker::Model;
+
+/// The providers of a filter, in byte order of distinct names.
+#[derive(Drop)]
+pub(crate) struct Providers {
+    pub(crate) all: List<JwtProvider>,
+}
+
+impl Model for Providers {
+    ghost use Rattle.std.specs.Prelude.{IsTrue, List};
+    ghost use Rattle.envoy_types.specs.Jwt.{Provider};
+    ghost use Rattle.envoy_types.specs.Order.{names_rise};
+
+    ghost Value = { List Provider };
+
+    ghost view = { λ p. p.all };
+
+    ghost invariant = { λ p. IsTrue (names_rise (λ provider. provider.name) p.all) };
+}
 
 /// A requirement of the providers of a filter.
 pub(crate) struct RequirementForm;
 
 impl FormWith for RequirementForm {
-    type Given = List<JwtProvider>;
+    type Given = Providers;
 
     type Out = Requirement;
 
@@ -35,7 +54,7 @@ impl FormWith for RequirementForm {
     #[tactic(auto, unfolding(envoy_types::specs::JwtForms::requirement_faults, envoy_types::specs::SmallForms::one_of))]
     fn read(
         alloc: Global,
-        given: &List<JwtProvider>,
+        given: &Providers,
         v: &Value,
         at: &Spot,
     ) -> Result<Requirement, DocError> {
@@ -51,7 +70,7 @@ impl FormWith for RequirementForm {
 fn one_or_any(
     alloc: Global,
     name: Option<Text>,
-    given: &List<JwtProvider>,
+    given: &Providers,
     v: &Value,
     at: &Spot,
 ) -> Result<Requirement, DocError>
@@ -71,7 +90,7 @@ fn one_or_any(
 struct ProviderName;
 
 impl FormWith for ProviderName {
-    type Given = List<JwtProvider>;
+    type Given = Providers;
 
     type Out = Text;
 
@@ -80,12 +99,7 @@ impl FormWith for ProviderName {
     ghost value = { text_in };
 
     #[tactic(auto, unfolding(mesh_doc::specs::Tested::tested, mesh_doc::specs::Kinds::text_faults, mesh_doc::specs::Kinds::text_in))]
-    fn read(
-        alloc: Global,
-        given: &List<JwtProvider>,
-        v: &Value,
-        at: &Spot,
-    ) -> Result<Text, DocError> {
+    fn read(alloc: Global, given: &Providers, v: &Value, at: &Spot) -> Result<Text, DocError> {
         let Value::String(name) = v else {
             return Err(at.refuse(alloc, Reason::WrongType));
         };
@@ -96,22 +110,18 @@ impl FormWith for ProviderName {
     }
 }
 
-fn is_provider(providers: &[JwtProvider], name: &str) -> bool
+// Whether it is the name of one of them, by halving.
+fn is_provider(providers: &Providers, name: &str) -> bool
     ensures { result ≡ form.is_provider (form.provider_names providers.now) name.now }
 {
-    for provider in providers {
-        if name == provider.name.as_str() {
-            return true;
-        }
-    }
-    false
+    provider_named(&providers.all, name).is_some()
 }
 
 // Several providers, and whether a token may be missing.
 struct RequiresAny;
 
 impl FormWith for RequiresAny {
-    type Given = List<JwtProvider>;
+    type Given = Providers;
 
     type Out = Requirement;
 
@@ -122,7 +132,7 @@ impl FormWith for RequiresAny {
     #[tactic(auto, unfolding(envoy_types::specs::JwtForms::requires_any_faults, envoy_types::specs::JwtForms::requires_any_in))]
     fn read(
         alloc: Global,
-        given: &List<JwtProvider>,
+        given: &Providers,
         v: &Value,
         at: &Spot,
     ) -> Result<Requirement, DocError> {
@@ -154,7 +164,7 @@ fn any_of(alloc: Global, entries: List<Option<Text>>) -> Result<Requirement, Mem
 struct Requirements;
 
 impl FormWith for Requirements {
-    type Given = List<JwtProvider>;
+    type Given = Providers;
 
     type Out = List<Option<Text>>;
 
@@ -165,7 +175,7 @@ impl FormWith for Requirements {
     #[tactic(auto, unfolding(envoy_types::specs::JwtForms::requirement_list_faults, envoy_types::specs::SmallForms::list_in_turn_that, envoy_types::specs::SmallForms::short_list_faults, mesh_doc::specs::Kinds::list_faults))]
     fn read(
         alloc: Global,
-        given: &List<JwtProvider>,
+        given: &Providers,
         v: &Value,
         at: &Spot,
     ) -> Result<List<Option<Text>>, DocError> {
@@ -179,7 +189,7 @@ impl FormWith for Requirements {
 #[tactic(auto, unfolding(envoy_types::specs::JwtForms::requirement_list_faults, envoy_types::specs::SmallForms::list_in_turn_that, envoy_types::specs::SmallForms::short_list_faults, mesh_doc::specs::Kinds::list_faults, mesh_doc::specs::Kinds::length_in, mesh_doc::specs::Turns::list_in_turn, mesh_doc::specs::Lists::list_in), using(mesh_doc::proofs::Counts::count_of_items))]
 fn two_entries(
     alloc: Global,
-    given: &List<JwtProvider>,
+    given: &Providers,
     items: &[Value],
     at: &Spot,
 ) -> Result<List<Option<Text>>, DocError>
@@ -198,7 +208,7 @@ fn two_entries(
 
 fn each_requirement(
     alloc: Global,
-    given: &List<JwtProvider>,
+    given: &Providers,
     items: &[Value],
     at: &Spot,
 ) -> Result<List<Option<Text>>, DocError>
@@ -221,7 +231,7 @@ fn each_requirement(
 #[tactic(auto, unfolding(envoy_types::specs::JwtForms::requirement_entry_faults, envoy_types::specs::JwtForms::requirement_entry_in))]
 fn requirement_entry(
     alloc: Global,
-    given: &List<JwtProvider>,
+    given: &Providers,
     is_last: bool,
     v: &Value,
     at: &Spot,

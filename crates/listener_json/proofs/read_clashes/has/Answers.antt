@@ -4,4 +4,4 @@ use Rattle.listener_json.proofs.KindSets.{found}
 use Rattle.listener_json.proofs.read_clashes.has.Goals as goal
 
 pub returns : goal.returns
-returns c = c.contains.ensures ∙ found c.args.kinds.now c.args.code c.args.name
+returns c = c.contains.ensures ∙ found c.args.kinds.now c.args.key.now

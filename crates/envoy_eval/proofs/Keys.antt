@@ -3,7 +3,7 @@ use Rattle.std.proofs.Common.{◌≡◌, ℕ, Bool, true, false, nat_eq, ◌&&�
 use Rattle.std.proofs.Common.{cond, if◌then◌else◌, ap, sym, refl, ◌∙◌, ◌+◌, Bor}
 use Rattle.std.proofs.lemmas.Bool.{cond-false, cond-true, false_from_ne_true}
 use Rattle.std.proofs.lemmas.Bool.Decides.{Decides-eqb}
-use Rattle.std.proofs.lemmas.Slice.Eq.{starts_is}
+use Rattle.std.proofs.lemmas.Slice.Eq.{bytes_eq-Decides, starts_is}
 use lib.Dec.{eqb}
 use Rattle.std.specs.Str.Pattern.{FindsTextPrefix}
 use Rattle.std.specs.Cmp.Lexicographic.{pointwise}
@@ -11,8 +11,18 @@ use Rattle.std.specs.List.{starts_with}
 use Rattle.std.specs.Option.{MatchOption, option_copied, option_map, option_or}
 use Rattle.std.specs.Str.{bytes_eq}
 use Rattle.mesh_policy.specs.Token.{behind}
-use Rattle.envoy_types.specs.Run.{Names, name_of, set_name}
+use Rattle.mesh_policy.specs.Attributes.{Seen}
+use Rattle.mesh_policy.specs.declared.case.Case.{Case}
+use Rattle.envoy_types.specs.Access.{Rules, effective, name_at, shadow_name}
+use Rattle.envoy_types.specs.Run.{Names, RunState, name_of, run_rbac, set_name, shadow_key}
 use Rattle.envoy_types.specs.State.{holds_of}
+use Rattle.envoy_types.specs.declared.access.Rbac.{Rbac}
+use Rattle.envoy_types.specs.declared.access.RbacAction.{RbacAction}
+use Rattle.envoy_types.specs.declared.access.RbacAction.TheVariants.{Allow, Deny, Log}
+use Rattle.envoy_eval.specs.Hits.{held, hit_at, hits_of_action, hits_of_rbac, hits_of_rules}
+use Rattle.envoy_eval.specs.Names.{name_of_hit, policy_of}
+use Rattle.envoy_eval.specs.declared.hits.Hit.{Hit}
+use Rattle.envoy_eval.specs.declared.hits.StageHits.{StageHits}
 
 two_parts : (prefix word key : List ℕ)
     → bytes_eq (prefix ++ word) key ≡ (pointwise nat_eq prefix (take (length prefix) key) && bytes_eq word (drop (length prefix) key))
@@ -61,3 +71,46 @@ behind-is prefix key (Some x) h =
     (starts_is Decides-eqb key prefix (starts_with eqb key prefix) refl).1 (drop h.0 key) h.1.1 in
     ap Some (h.2 ∙ ap (λ n. drop n key) h.1.0)
     ∙ sym (cond-true (starts_with eqb key prefix) (Some (drop (length prefix) key)) None begins)
+
+-- ---- the name by a hit
+
+-- the hit of shadow rules, whatever the rules hit
+custom-of : (at : ℕ) (rules : Option Rules) (case : Case) (seen : Seen) (custom : Option Hit)
+    → (hits_of_rules at rules case seen custom).custom ≡ custom
+custom-of at None case seen custom = refl
+custom-of at (Some rules) case seen custom = by rules.action where
+  by : (action : RbacAction) → (hits_of_action action at rules (effective rules case seen) custom).custom ≡ custom
+  by Allow = refl
+  by Deny = refl
+  by Log = refl
+
+policy-of : (at : ℕ) (position : Option ℕ) → policy_of (hit_at at position) ≡ position
+policy-of at None = refl
+policy-of at (Some position) = refl
+
+-- tells the name that they told
+pub name-by-hit : (at : ℕ) (rbac : Rbac) (case : Case) (seen : Seen) (hits : StageHits) → hits ≡ hits_of_rbac at case rbac seen
+    → name_of_hit rbac.shadow hits.custom ≡ shadow_name rbac.shadow case seen
+name-by-hit at rbac case seen hits e =
+    ap (λ (h : StageHits). name_of_hit rbac.shadow h.custom) e
+    ∙ ap (λ (h : Option Hit). name_of_hit rbac.shadow h) (custom-of at rbac.rules case seen (hit_at at (held rbac.shadow case seen)))
+    ∙ by rbac.shadow where
+      by : (shadow : Option Rules) → name_of_hit shadow (hit_at at (held shadow case seen)) ≡ shadow_name shadow case seen
+      by None = refl
+      by (Some rules) = ap (name_at rules) (policy-of at (effective rules case seen))
+
+-- and so the name at a key behind the filter is known
+pub name-behind-hit : (key : List ℕ) (at : ℕ) (rbac : Rbac) (case : Case) (seen : Seen) (before : RunState) (hits : StageHits)
+    (told : Option (List ℕ)) → hits ≡ hits_of_rbac at case rbac seen → seen ≡ before.seen → told ≡ name_of key before.names
+    → (if bytes_eq (shadow_key rbac) key then option_or (name_of_hit rbac.shadow hits.custom) told else told)
+    ≡ name_of key (run_rbac rbac case before).state.names
+name-behind-hit key at rbac case seen before hits told e s n =
+    ap (λ (own : Option (List ℕ)). if bytes_eq (shadow_key rbac) key then option_or own told else told)
+    (name-by-hit at rbac case seen hits e ∙ ap (shadow_name rbac.shadow case) s)
+    ∙ ap (λ (o : Option (List ℕ)). if bytes_eq (shadow_key rbac) key
+    then option_or (shadow_name rbac.shadow case before.seen) o else o) n
+    ∙ sym (name-set key (shadow_key rbac) (shadow_name rbac.shadow case before.seen) before.names)
+
+-- equal texts are the same text
+pub same-key : (one two : List ℕ) → bytes_eq one two ≡ true → one ≡ two
+same-key one two e = (bytes_eq-Decides one two).0 e

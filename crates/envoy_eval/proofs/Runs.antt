@@ -1,6 +1,6 @@
 -- The run of filters, filter by filter.
-use Rattle.std.proofs.Common.{◌≡◌, ℕ, ◌+◌, ◌<◌, Bool, true, false, List, [], ◌∷◌, ◌++◌, length, take, drop, get_or, Option, Some}
-use Rattle.std.proofs.Common.{None, ap, sym, refl, subst, ◌∙◌}
+use Rattle.std.proofs.Common.{◌≡◌, ℕ, ◌+◌, ◌-◌, ◌<◌, ◌≤◌, Bool, true, false, List, [], ◌∷◌, ◌++◌, length, take, drop, get_or, Option, Some}
+use Rattle.std.proofs.Common.{None, ap, arith, sym, refl, subst, ◌∙◌}
 use Rattle.std.proofs.lemmas.List.{drop_more, take_more}
 use Rattle.std.specs.Option.{option_or}
 use Rattle.mesh_policy.specs.Attributes.{Seen}
@@ -112,6 +112,14 @@ module _ {F : Type 0} (run : F → RunState → Step) where
       ap (λ fs. after run fs state) (take_more filters i filter within)
       ∙ after-append (take i filters) (get_or filters i filter ∷ []) state
       ∙ ap (λ (f : F). (run f (after run (take i filters) state)).state) (sym is)
+
+  -- the same of the last of those that are left
+  pub after-last : (filters : List F) (left : ℕ) (filter : F) (state : RunState) → left ≤ length filters → 0 < left
+      → filter ≡ get_or filters (left - 1) filter
+      → after run (take left filters) state ≡ (run filter (after run (take (left - 1) filters) state)).state
+  after-last filters left filter state within some is =
+      let next : left ≡ left - 1 + 1 = omega arith in
+      ap (λ n. after run (take n filters) state) next ∙ after-one filters (left - 1) filter state (omega arith) is
 
   -- a filter goes on
   then-on : (step : Step) (next : RunState → Step) → is_going step.decision ≡ true

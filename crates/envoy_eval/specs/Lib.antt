@@ -1,6 +1,7 @@
 pub mod Chains
 pub mod Filters
 pub mod Hits
+pub mod Names
 pub mod Runs
 pub mod Steps
 pub mod Tokens

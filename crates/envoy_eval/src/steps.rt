@@ -69,14 +69,14 @@ fn run_required(jwt: &JwtAuthn, requirement: &Requirement, case: &Case, now: Sta
         → StepIs case.now result (run.run_required jwt.now case.now (standing case.now now names) (Some requirement.now)) }
     ensures hits { result.hits ≡ stages.no_hits }
 {
-    match first_position_by(&jwt.providers, requirement, case) {
+    match first_position_by(jwt, requirement, case) {
         Some(at) => FilterStep {
             decision: Decision::GoesOn,
             after: with_verdict(now, at),
             hits: no_hits(),
         },
         None => FilterStep {
-            decision: without_verdict(may_miss(&jwt.providers, requirement, case)),
+            decision: without_verdict(may_miss(jwt, requirement, case)),
             after: now,
             hits: no_hits(),
         },

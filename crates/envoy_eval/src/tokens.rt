@@ -9,7 +9,7 @@ ghost use Rattle.mesh_policy.specs.Token.{token_at};
 ghost use Rattle.envoy_types.specs.Jwt as jwt;
 ghost use Rattle.envoy_eval.specs.Tokens as tokens;
 
-use envoy_types::{JwtAuthn, JwtCheck, JwtProvider, Requirement};
+use envoy_types::{JwtAuthn, JwtCheck, JwtProvider, Requirement, provider_named};
 use mesh_policy::{Case, JwtRule, Keys, Request, TokenPlace, TokenVerdict, find_token};
 use mesh_text::{Text, is_prefix};
 
@@ -40,23 +40,23 @@ fn rule_of<'a>(rules: &'a [JwtCheck], path: &str) -> Option<&'a JwtCheck>
 
 /// Where the case lists the valid token of the first provider of a requirement that holds.
 pub(crate) fn first_position_by(
-    providers: &[JwtProvider],
+    filter: &JwtAuthn,
     requirement: &Requirement,
     case: &Case,
 ) -> Option<usize>
-    ensures { result ≡ tokens.first_position_by providers.now case.now (jwt.names_of requirement.now) }
+    ensures { result ≡ tokens.first_position_by filter.now.providers case.now (jwt.names_of requirement.now) }
 {
     match requirement {
-        Requirement::One(name) => position_by(providers, case, name),
-        Requirement::AnyOf { names, .. } => first_of(providers, case, names),
+        Requirement::One(name) => position_by(filter, case, name),
+        Requirement::AnyOf { names, .. } => first_of(filter, case, names),
     }
 }
 
-fn first_of(providers: &[JwtProvider], case: &Case, names: &[Text]) -> Option<usize>
-    ensures { result ≡ tokens.first_position_by providers.now case.now names.now }
+fn first_of(filter: &JwtAuthn, case: &Case, names: &[Text]) -> Option<usize>
+    ensures { result ≡ tokens.first_position_by filter.now.providers case.now names.now }
 {
     for name in names {
-        if let Some(position) = position_by(providers, case, name) {
+        if let Some(position) = position_by(filter, case, name) {
             return Some(position);
         }
     }
@@ -64,50 +64,49 @@ fn first_of(providers: &[JwtProvider], case: &Case, names: &[Text]) -> Option<us
 }
 
 /// Whether a requirement is met by a request in which none of its providers finds a token.
-pub(crate) fn may_miss(providers: &[JwtProvider], requirement: &Requirement, case: &Case) -> bool
-    ensures { result ≡ tokens.may_miss providers.now case.now requirement.now }
+pub(crate) fn may_miss(filter: &JwtAuthn, requirement: &Requirement, case: &Case) -> bool
+    ensures { result ≡ tokens.may_miss filter.now.providers case.now requirement.now }
 {
     match requirement {
         Requirement::One(_) => false,
         Requirement::AnyOf {
             names,
             allow_missing,
-        } => { *allow_missing && !one_has_token(providers, case, names) }
+        } => { *allow_missing && !one_has_token(filter, case, names) }
     }
 }
 
-fn one_has_token(providers: &[JwtProvider], case: &Case, names: &[Text]) -> bool
-    ensures { result ≡ list_any (jwt.has_token providers.now case.now) names.now }
+fn one_has_token(filter: &JwtAuthn, case: &Case, names: &[Text]) -> bool
+    ensures { result ≡ list_any (jwt.has_token filter.now.providers case.now) names.now }
 {
-    names.iter().any(|name| has_token(providers, case, name))
+    names.iter().any(|name| has_token(filter, case, name))
 }
 
 // ---- one provider
 
-fn provider_named<'a>(providers: &'a [JwtProvider], name: &str) -> Option<&'a JwtProvider>
-    ensures { option_copied result ≡ jwt.provider_named providers.now name.now }
+fn has_token(filter: &JwtAuthn, case: &Case, name: &str) -> bool
+    ensures { result ≡ jwt.has_token filter.now.providers case.now name.now }
 {
-    providers
-        .iter()
-        .find(|provider| provider.name.as_str() == name)
-}
-
-fn has_token(providers: &[JwtProvider], case: &Case, name: &str) -> bool
-    ensures { result ≡ jwt.has_token providers.now case.now name.now }
-{
-    match provider_named(providers, name) {
+    match provider_of(filter, name) {
         None => false,
         Some(provider) => token_of(case, &provider.rule).is_some(),
     }
 }
 
-fn position_by(providers: &[JwtProvider], case: &Case, name: &str) -> Option<usize>
-    ensures { result ≡ tokens.position_by providers.now case.now name.now }
+fn position_by(filter: &JwtAuthn, case: &Case, name: &str) -> Option<usize>
+    ensures { result ≡ tokens.position_by filter.now.providers case.now name.now }
 {
-    match provider_named(providers, name) {
+    match provider_of(filter, name) {
         None => None,
         Some(provider) => position_for(case, &provider.rule),
     }
+}
+
+// the provider of a name, by halving
+fn provider_of<'a>(filter: &'a JwtAuthn, name: &str) -> Option<&'a JwtProvider>
+    ensures { option_copied result ≡ jwt.provider_named filter.now.providers name.now }
+{
+    provider_named(&filter.providers, name)
 }
 
 // where the case answers the question of a rule

@@ -1,0 +1,4 @@
+pub mod Holds
+pub mod Names
+pub mod Namespace
+pub mod Principal

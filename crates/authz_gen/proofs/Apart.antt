@@ -1,6 +1,6 @@
 -- No two policies of a filter have one name, so they stand in strict byte order.
-use Rattle.std.proofs.Common.{◌≡◌, ℕ, ◌+◌, ◌<◌, ◌≤◌, Bool, true, false, not, All, AllPairs, List, [], ◌∷◌, ◌++◌, decimal, get_or}
-use Rattle.std.proofs.Common.{length, map, suc, refl, sym, ◌∙◌, ap, arith}
+use Rattle.std.proofs.Common.{◌≡◌, ℕ, ◌+◌, ◌<◌, ◌≤◌, Bool, true, false, not, All, AllPairs, List, [], ◌∷◌, ◌++◌, cond, decimal, filter}
+use Rattle.std.proofs.Common.{get_or, length, map, suc, refl, sym, ◌∙◌, ap, arith}
 use Rattle.std.proofs.lemmas.Bool.{and_from, and_parts}
 use Rattle.std.proofs.lemmas.Fmt.{decimal_injective}
 use Rattle.std.proofs.lemmas.List.Elements.{All-head, All-tail}
@@ -15,7 +15,7 @@ use Rattle.mesh_policy.specs.declared.policy.AuthorizationPolicy.{AuthorizationP
 use Rattle.mesh_policy.specs.declared.policy.Rule.{Rule}
 use Rattle.envoy_types.specs.Order.{names_rise}
 use Rattle.envoy_types.specs.declared.access.RbacPolicy.{RbacPolicy}
-use Rattle.authz_gen.specs.Policies.{AreTcpPolicies, policies_tcp, rule_policies_tcp, rule_policy_tcp}
+use Rattle.authz_gen.specs.Policies.{ArePoliciesOf, has_policy, policies_tcp, rule_policies_tcp, rule_policy_tcp}
 use Rattle.authz_gen.proofs.InOrder.{are_apart, is_apart, rises-in_order}
 use Rattle.authz_gen.proofs.Names.{is_plain, named, plain-label, plain-subdomain, same-parts}
 
@@ -25,6 +25,33 @@ name_of policy = policy.name
 abbrev Apart : RbacPolicy → RbacPolicy → Bool
 Apart = is_apart name_of
 
+-- ---- without some of the entries
+
+all-filter : {A : Type 0} (test : RbacPolicy → Bool) (make : A → RbacPolicy) (keep : A → Bool) (xs : List A)
+    → list_all test (map make xs) ≡ true → list_all test (map make (filter keep xs)) ≡ true
+all-filter test make keep [] h = refl
+all-filter test make keep (x ∷ xs) h =
+    let parts = and_parts (test (make x)) (list_all test (map make xs)) h in
+    at (keep x) parts.0 (all-filter test make keep xs parts.1) where
+      at : (b : Bool) → test (make x) ≡ true → list_all test (map make (filter keep xs)) ≡ true
+          → list_all test (map make (cond b (x ∷ filter keep xs) (filter keep xs))) ≡ true
+      at true first rest = and_from _ _ first rest
+      at false first rest = rest
+
+apart-filter : {A : Type 0} (make : A → RbacPolicy) (keep : A → Bool) (xs : List A)
+    → are_apart name_of (map make xs) ≡ true → are_apart name_of (map make (filter keep xs)) ≡ true
+apart-filter make keep [] h = refl
+apart-filter make keep (x ∷ xs) h =
+    let parts = and_parts (list_all (Apart (make x)) (map make xs)) (are_apart name_of (map make xs)) h in
+    at (keep x) (all-filter (Apart (make x)) make keep xs parts.0) (apart-filter make keep xs parts.1) where
+      at : (b : Bool) → list_all (Apart (make x)) (map make (filter keep xs)) ≡ true
+          → are_apart name_of (map make (filter keep xs)) ≡ true
+          → are_apart name_of (map make (cond b (x ∷ filter keep xs) (filter keep xs))) ≡ true
+      at true first rest = and_from _ _ first rest
+      at false first rest = rest
+
+-- ---- names
+
 -- what the names of a policy's rules need
 pub record IsNamed (action : Action) (policy : AuthorizationPolicy) : Type 0 where
   pub action_is : policy.action ≡ action
@@ -32,7 +59,7 @@ pub record IsNamed (action : Action) (policy : AuthorizationPolicy) : Type 0 whe
   pub name : is_plain policy.name ≡ true
   pub few : length policy.rules ≤ 2048
 
-pub all-named : (action : Action) (policies : List AuthorizationPolicy) → AreTcpPolicies action policies → All (IsNamed action) policies
+pub all-named : (action : Action) (policies : List AuthorizationPolicy) → ArePoliciesOf action policies → All (IsNamed action) policies
 all-named action policies h = λ k d within. record {
   action_is = h.actions k d within;
   namespace = plain-label (get_or policies k d).namespace (h.accepted.each k d within).namespace;
@@ -52,7 +79,7 @@ name-is action policy index e = ap (λ a. named (action_front a) policy.namespac
 
 module _ (action : Action) where
   -- the parts of two names that are the same
-  same : (p q : AuthorizationPolicy) (i j : ℕ) → IsNamed action p → IsNamed action q → rule_name p i ≡ rule_name q j
+  pub same : (p q : AuthorizationPolicy) (i j : ℕ) → IsNamed action p → IsNamed action q → rule_name p i ≡ rule_name q j
       → (p.namespace ≡ q.namespace) × (p.name ≡ q.name) × (decimal i ≡ decimal j)
   same p q i j hp hq e =
       same-parts (action_front action) p.namespace p.name (decimal i) q.namespace q.name (decimal j)
@@ -81,7 +108,7 @@ module _ (action : Action) where
 
   -- ---- rules of two policies
 
-  same_names : (p q : AuthorizationPolicy) → p.namespace ≡ q.namespace → p.name ≡ q.name → same_policy p q ≡ true
+  pub same_names : (p q : AuthorizationPolicy) → p.namespace ≡ q.namespace → p.name ≡ q.name → same_policy p q ≡ true
   same_names p q e f = and_from _ _ ((bytes_eq-Decides _ _).1 e) ((bytes_eq-Decides _ _).1 f)
 
   policy-apart : (p q : AuthorizationPolicy) (i j : ℕ) (r s : Rule) → IsNamed action p → IsNamed action q → same_policy p q ≡ false
@@ -105,22 +132,24 @@ module _ (action : Action) where
   all-apart p i r [] hp hq other = refl
   all-apart p i r (q ∷ qs) hp hq other =
       list_all-append (Apart (rule_policy_tcp p (i, r))) (rule_policies_tcp q) (flat_map rule_policies_tcp qs)
-      ∙ and_from _ _ (rules-apart p q i r 0 q.rules hp (All-head (IsNamed action) q qs hq) (All-head (IsOther p) q qs other))
+      ∙ and_from _ _
+      (all-filter (Apart (rule_policy_tcp p (i, r))) (rule_policy_tcp q) (has_policy q.action) (enumerate_from 0 q.rules)
+      (rules-apart p q i r 0 q.rules hp (All-head (IsNamed action) q qs hq) (All-head (IsOther p) q qs other)))
       (all-apart p i r qs hp (All-tail (IsNamed action) q qs hq) (All-tail (IsOther p) q qs other))
 
   -- ---- all rules
 
-  joined : (p : AuthorizationPolicy) (k : ℕ) (rs : List Rule) (others : List RbacPolicy)
-      → ((i : ℕ) (r : Rule) → list_all (Apart (rule_policy_tcp p (i, r))) others ≡ true)
-      → are_apart name_of (map (rule_policy_tcp p) (enumerate_from k rs)) ≡ true → are_apart name_of others ≡ true
-      → are_apart name_of (map (rule_policy_tcp p) (enumerate_from k rs) ++ others) ≡ true
-  joined p k [] others each own rest = rest
-  joined p k (r ∷ rs) others each own rest =
-      let first = rule_policy_tcp p (k, r) in
-      let later = map (rule_policy_tcp p) (enumerate_from (k + 1) rs) in
+  joined : (p : AuthorizationPolicy) (entries : List (ℕ × Rule)) (others : List RbacPolicy)
+      → ((entry : ℕ × Rule) → list_all (Apart (rule_policy_tcp p entry)) others ≡ true)
+      → are_apart name_of (map (rule_policy_tcp p) entries) ≡ true → are_apart name_of others ≡ true
+      → are_apart name_of (map (rule_policy_tcp p) entries ++ others) ≡ true
+  joined p [] others each own rest = rest
+  joined p (entry ∷ entries) others each own rest =
+      let first = rule_policy_tcp p entry in
+      let later = map (rule_policy_tcp p) entries in
       let parts = and_parts (list_all (Apart first) later) (are_apart name_of later) own in
-      and_from _ _ (list_all-append (Apart first) later others ∙ and_from _ _ parts.0 (each k r))
-      (joined p (k + 1) rs others each parts.1 rest)
+      and_from _ _ (list_all-append (Apart first) later others ∙ and_from _ _ parts.0 (each entry))
+      (joined p entries others each parts.1 rest)
 
   pub names-apart : (ps : List AuthorizationPolicy) → All (IsNamed action) ps → AllPairs IsOther ps
       → are_apart name_of (flat_map rule_policies_tcp ps) ≡ true
@@ -130,10 +159,13 @@ module _ (action : Action) where
       let later = All-tail (IsNamed action) p ps h in
       let others : All (IsOther p) ps = λ k d within. other 0 (suc k) d (omega arith) (omega arith) in
       let pairs : AllPairs IsOther ps = λ i j d before within. other (suc i) (suc j) d (omega arith) (omega arith) in
-      joined p 0 p.rules (flat_map rule_policies_tcp ps) (λ i r. all-apart p i r ps here later others)
-      (own-apart p 0 p.rules here (omega (arith, here.few))) (names-apart ps later pairs)
+      joined p (filter (has_policy p.action) (enumerate_from 0 p.rules)) (flat_map rule_policies_tcp ps)
+      (λ entry. all-apart p entry.0 entry.1 ps here later others)
+      (apart-filter (rule_policy_tcp p) (has_policy p.action) (enumerate_from 0 p.rules)
+      (own-apart p 0 p.rules here (omega (arith, here.few))))
+      (names-apart ps later pairs)
 
-pub names-rise : (action : Action) (policies : List AuthorizationPolicy) → AreTcpPolicies action policies
+pub names-rise : (action : Action) (policies : List AuthorizationPolicy) → ArePoliciesOf action policies
     → names_rise (λ policy. policy.name) (policies_tcp policies) ≡ true
 unfolding policies_tcp
 names-rise action policies h =

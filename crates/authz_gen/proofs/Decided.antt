@@ -1,13 +1,11 @@
 -- The filter of the policies of an action decides a TCP connection as their rules do.
-use Rattle.std.proofs.Common.{◌≡◌, ℕ, ◌+◌, Bool, true, false, ◌||◌, All, IsTrue, List, [], ◌∷◌, map, Option, Some, None, is_some, cond}
+use Rattle.std.proofs.Common.{◌≡◌, ℕ, ◌+◌, Bool, true, false, ◌&&◌, ◌||◌, All, List, [], ◌∷◌, cond, get_or, Option, Some, None, is_some}
 use Rattle.std.proofs.Common.{refl, ◌∙◌, ap}
-use Rattle.std.proofs.lemmas.Bool.{and_parts}
-use Rattle.std.proofs.lemmas.List.Elements.{All-head, All-tail}
-use Rattle.std.proofs.lemmas.List.Folds.{list_any-append}
-use Rattle.std.specs.List.{enumerate_from, flat_map, list_all, list_any}
+use Rattle.std.specs.List.{enumerate_from, flat_map, list_any}
 use Rattle.std.specs.Option.{option_map}
+use Rattle.mesh_policy.specs.AcceptedRules.{AcceptedPolicy, AcceptedRule}
 use Rattle.mesh_policy.specs.Attributes.{Seen}
-use Rattle.mesh_policy.specs.RuleHolds as rules
+use Rattle.mesh_policy.specs.RuleHolds.{rule_holds_tcp}
 use Rattle.mesh_policy.specs.Verdicts.{some_holds}
 use Rattle.mesh_policy.specs.Verdicts as mesh
 use Rattle.mesh_policy.specs.declared.case.Case.{Case}
@@ -17,10 +15,13 @@ use Rattle.mesh_policy.specs.declared.policy.Rule.{Rule}
 use Rattle.mesh_policy.specs.declared.service.Protocol.TheVariants.{Tcp}
 use Rattle.envoy_types.specs.Access.{Rules, action_marks, action_passes, effective, first_position, policy_holds}
 use Rattle.envoy_types.specs.declared.access.RbacPolicy.{RbacPolicy}
-use Rattle.authz_gen.specs.Operations.{asks_for_ports}
-use Rattle.authz_gen.specs.Policies.{DecidesTcp, name_before, policies_tcp, rbac_action, tcp_rbac, rule_policies_tcp, rule_policy_tcp}
+use Rattle.peer_name.specs.Holds.{HasNamedPeer}
+use Rattle.authz_gen.specs.Policies.{ArePoliciesOf, DecidesTcp, RulesHoldAsPolicies, has_policy, name_before, policies_tcp, rbac_action}
+use Rattle.authz_gen.specs.Policies.{rule_policies_tcp, rule_policy_tcp, tcp_rbac}
 use Rattle.authz_gen.proofs.InOrder.{any-in_order}
-use Rattle.authz_gen.proofs.RuleHolds.{rule-holds}
+use Rattle.authz_gen.proofs.ListAny.{All-enumerate, any-enumerate, any-flat_map, any-kept, any-same}
+use Rattle.authz_gen.proofs.OwnPolicy.{holds-as-own}
+use Rattle.authz_gen.proofs.RuleHolds.{rule-decides}
 
 -- ---- a policy is effective where one holds
 
@@ -43,42 +44,47 @@ is_some-effective rules case seen = is_some-first (λ policy. policy_holds polic
 
 -- ---- and one holds where a rule does
 
-abbrev AsksForPorts : AuthorizationPolicy → Type 0
-AsksForPorts policy = IsTrue (list_all asks_for_ports policy.rules)
-
-module _ (case : Case) (seen : Seen) where
+module _ (case : Case) (seen : Seen) (named : HasNamedPeer case) where
   abbrev holds : RbacPolicy → Bool
   holds policy = policy_holds policy case seen
 
-  rules-hold : (policy : AuthorizationPolicy) (index : ℕ) (rs : List Rule) → list_all asks_for_ports rs ≡ true
-      → list_any holds (map (rule_policy_tcp policy) (enumerate_from index rs)) ≡ list_any (rules.rule_holds_tcp case seen policy.action) rs
-  rules-hold policy index [] h = refl
-  rules-hold policy index (rule ∷ rs) h =
-      ap (λ b. b || list_any holds (map (rule_policy_tcp policy) (enumerate_from (index + 1) rs)))
-      (rule-holds case seen policy index policy.action rule (and_parts _ _ h).0)
-      ∙ ap (λ b. rules.rule_holds_tcp case seen policy.action rule || b) (rules-hold policy (index + 1) rs (and_parts _ _ h).1)
+  policy-holds : (policy : AuthorizationPolicy) → AcceptedPolicy policy
+      → list_any holds (rule_policies_tcp policy) ≡ mesh.policy_holds Tcp case seen policy
+  policy-holds policy accepted =
+      let entries = enumerate_from 0 policy.rules in
+      let each : All (λ (e : ℕ × Rule). AcceptedRule e.1) entries = All-enumerate AcceptedRule 0 policy.rules accepted.rules.each in
+      let held : ℕ × Rule → Bool = λ e. has_policy policy.action e && holds (rule_policy_tcp policy e) in
+      let told : ℕ × Rule → Bool = λ e. rule_holds_tcp case seen policy.action e.1 in
+      any-kept holds (rule_policy_tcp policy) (has_policy policy.action) entries
+      ∙ any-same held told entries
+      (λ k d within. rule-decides case seen named policy policy.action (get_or entries k d) (each k d within))
+      ∙ any-enumerate (rule_holds_tcp case seen policy.action) 0 policy.rules
 
-  listed-hold : (policies : List AuthorizationPolicy) → All AsksForPorts policies
-      → list_any holds (flat_map rule_policies_tcp policies) ≡ some_holds Tcp case seen policies
-  listed-hold [] h = refl
-  listed-hold (policy ∷ policies) h =
-      list_any-append holds (rule_policies_tcp policy) (flat_map rule_policies_tcp policies)
-      ∙ ap (λ b. b || list_any holds (flat_map rule_policies_tcp policies))
-      (rules-hold policy 0 policy.rules (All-head AsksForPorts policy policies h))
-      ∙ ap (λ b. mesh.policy_holds Tcp case seen policy || b) (listed-hold policies (All-tail AsksForPorts policy policies h))
-
-  pub policies-hold : (policies : List AuthorizationPolicy) → All AsksForPorts policies
+  pub policies-hold : (policies : List AuthorizationPolicy) → All AcceptedPolicy policies
       → list_any holds (policies_tcp policies) ≡ some_holds Tcp case seen policies
   unfolding policies_tcp
-  policies-hold policies h = any-in_order name_before holds (flat_map rule_policies_tcp policies) ∙ listed-hold policies h
+  policies-hold policies accepted =
+      any-in_order name_before holds (flat_map rule_policies_tcp policies)
+      ∙ any-flat_map holds rule_policies_tcp policies
+      ∙ any-same (λ policy. list_any holds (rule_policies_tcp policy)) (mesh.policy_holds Tcp case seen) policies
+      (λ k d within. policy-holds (get_or policies k d) (accepted k d within))
 
-pub decides : (action : Action) (policies : List AuthorizationPolicy) → All AsksForPorts policies
+pub decides : (action : Action) (policies : List AuthorizationPolicy) → All AcceptedPolicy policies
     → DecidesTcp (tcp_rbac action policies) action policies
 unfolding tcp_rbac
-decides action policies h =
+decides action policies accepted =
     let rules : Rules = record { action = rbac_action action; policies = policies_tcp policies } in
     record {
-      passes = λ case seen. ap (action_passes (rbac_action action))
-          (is_some-effective rules case seen ∙ policies-hold case seen policies h);
-      marks = λ case seen. ap (action_marks (rbac_action action)) (is_some-effective rules case seen ∙ policies-hold case seen policies h);
+      passes = λ case seen named. ap (action_passes (rbac_action action))
+          (is_some-effective rules case seen ∙ policies-hold case seen named policies accepted);
+      marks = λ case seen named. ap (action_marks (rbac_action action))
+          (is_some-effective rules case seen ∙ policies-hold case seen named policies accepted);
     }
+
+-- ---- and each rule holds where its own policy does
+
+pub rules-hold : (action : Action) (policies : List AuthorizationPolicy) → ArePoliciesOf action policies
+    → RulesHoldAsPolicies (tcp_rbac action policies) policies
+unfolding tcp_rbac policies_tcp
+rules-hold action policies h =
+    λ n d within k e inside case seen named. holds-as-own action policies h case seen named n d within k e inside

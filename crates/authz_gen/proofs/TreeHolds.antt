@@ -1,8 +1,10 @@
 -- What the trees of lists of values hold for.
-use Rattle.std.proofs.Common.{◌≡◌, ◌==◌, ◌<◌, Bool, true, not, ◌&&◌, ◌||◌, List, [], ◌∷◌, length, map, Ok, refl, sym, ◌∙◌, ap, arith}
+use Rattle.std.proofs.Common.{◌≡◌, ◌==◌, ◌<◌, Bool, true, not, ◌&&◌, ◌||◌, All, List, [], ◌∷◌, get_or, length, map, Ok}
+use Rattle.std.proofs.Common.{refl, sym, ◌∙◌, ap, arith}
 use Rattle.std.proofs.Math.Bool.{and-true}
 use Rattle.std.proofs.Math.Dec.{eqb-suc-zero}
 use Rattle.std.proofs.lemmas.List.{length-map}
+use Rattle.std.proofs.lemmas.List.Elements.{All-head, All-tail}
 use Rattle.std.proofs.lemmas.List.Folds.{list_all-append}
 use Rattle.std.specs.List.{list_all, list_any}
 use Rattle.mesh_policy.specs.RuleHolds as rules
@@ -19,12 +21,20 @@ use Rattle.authz_gen.specs.Lists.{all_of, field_of, if_any, none_of}
 some : {A : Type 0} (x : A) (xs : List A) → 0 < length (x ∷ xs)
 some x xs = omega arith
 
-pub list_any-of : {A B : Type 0} (test : B → Bool) (make : A → B) (matches : A → Bool) → ((x : A) → test (make x) ≡ matches x) →
-    (xs : List A)
-    → list_any test (map make xs) ≡ list_any matches xs
-list_any-of test make matches each [] = refl
-list_any-of test make matches each (x ∷ xs) =
-    ap (λ b. b || list_any test (map make xs)) (each x) ∙ ap (λ b. matches x || b) (list_any-of test make matches each xs)
+-- what is made of each entry passes where the entry does
+pub any-made : {A B : Type 0} (test : B → Bool) (make : A → B) (matches : A → Bool) (xs : List A)
+    → All (λ x. test (make x) ≡ matches x) xs → list_any test (map make xs) ≡ list_any matches xs
+any-made test make matches [] each = refl
+any-made test make matches (x ∷ xs) each =
+    ap (λ b. b || list_any test (map make xs)) (All-head (λ y. test (make y) ≡ matches y) x xs each)
+    ∙ ap (λ b. matches x || b) (any-made test make matches xs (All-tail (λ y. test (make y) ≡ matches y) x xs each))
+
+-- a part that isn't written holds as what is made of it
+pub one_of-made : {A B : Type 0} (test : B → Bool) (make : A → B) (xs : List A)
+    → rules.one_of test (map make xs) ≡ rules.one_of (λ x. test (make x)) xs
+one_of-made test make xs =
+    ap (λ n. (n == 0) || list_any test (map make xs)) (length-map xs make)
+    ∙ ap (λ b. (length xs == 0) || b) (any-made test make (λ x. test (make x)) xs (λ k d within. refl))
 
 module _ {L : Type 0} (p : L → Bool) where
   pub holds-any : tree_holds p (tree_of Node.Any) ≡ true
@@ -62,21 +72,33 @@ module _ {L : Type 0} (p : L → Bool) where
       rw (eqb-suc-zero (length ts))
       (and-true (tree_holds p (none_of (t ∷ ts))) ∙ holds-not (or_of (t ∷ ts)) ∙ ap not (holds-or t ts))
 
-  module _ {A : Type 0} (tree : A → Tree L) (matches : A → Bool) (each : (x : A) → tree_holds p (tree x) ≡ matches x) where
+  module _ {A : Type 0} (tree : A → Tree L) (matches : A → Bool) where
+    -- the tree of a value holds where the value matches
+    abbrev pub HoldsAsMatched : A → Type 0
+    HoldsAsMatched x = tree_holds p (tree x) ≡ matches x
+
     -- a list of values, of which one matches
-    pub one-of-holds : (xs : List A) → list_all (tree_holds p) (if_any or_of (map tree xs)) ≡ rules.one_of matches xs
-    one-of-holds xs =
+    pub one-of-holds : (xs : List A) → All HoldsAsMatched xs
+        → list_all (tree_holds p) (if_any or_of (map tree xs)) ≡ rules.one_of matches xs
+    one-of-holds xs each =
         one-holds (map tree xs)
         ∙ ap (λ n. (n == 0) || list_any (tree_holds p) (map tree xs)) (length-map xs tree)
-        ∙ ap (λ b. (length xs == 0) || b) (list_any-of (tree_holds p) tree matches each xs)
+        ∙ ap (λ b. (length xs == 0) || b) (any-made (tree_holds p) tree matches xs each)
 
-    none-of-holds : (xs : List A) → list_all (tree_holds p) (if_any none_of (map tree xs)) ≡ rules.none_of matches xs
-    none-of-holds xs = none-holds (map tree xs) ∙ ap not (list_any-of (tree_holds p) tree matches each xs)
+    none-of-holds : (xs : List A) → All HoldsAsMatched xs
+        → list_all (tree_holds p) (if_any none_of (map tree xs)) ≡ rules.none_of matches xs
+    none-of-holds xs each = none-holds (map tree xs) ∙ ap not (any-made (tree_holds p) tree matches xs each)
 
     -- a field and the `not` field beside it
-    pub field-holds : (xs not_xs : List A)
+    pub field-holds : (xs not_xs : List A) → All HoldsAsMatched xs → All HoldsAsMatched not_xs
         → list_all (tree_holds p) (field_of (map tree xs) (map tree not_xs)) ≡ rules.both_hold matches xs not_xs
-    field-holds xs not_xs =
+    field-holds xs not_xs each each_not =
         list_all-append (tree_holds p) (if_any or_of (map tree xs)) (if_any none_of (map tree not_xs))
-        ∙ ap (λ b. b && list_all (tree_holds p) (if_any none_of (map tree not_xs))) (one-of-holds xs)
-        ∙ ap (λ b. rules.one_of matches xs && b) (none-of-holds not_xs)
+        ∙ ap (λ b. b && list_all (tree_holds p) (if_any none_of (map tree not_xs))) (one-of-holds xs each)
+        ∙ ap (λ b. rules.one_of matches xs && b) (none-of-holds not_xs each_not)
+
+    -- a field of values each of which is told alike
+    pub each-field-holds : ((x : A) → HoldsAsMatched x) → (xs not_xs : List A)
+        → list_all (tree_holds p) (field_of (map tree xs) (map tree not_xs)) ≡ rules.both_hold matches xs not_xs
+    each-field-holds each xs not_xs =
+        field-holds xs not_xs (λ k d within. each (get_or xs k d)) (λ k d within. each (get_or not_xs k d))

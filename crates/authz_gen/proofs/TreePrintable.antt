@@ -1,5 +1,5 @@
 -- Trees that are joined of trees that can be written can be written, where their lists keep the limit.
-use Rattle.std.proofs.Common.{◌≡◌, ◌<◌, ◌≤◌, Bool, true, ◌&&◌, List, [], ◌∷◌, length, map, refl, sym, ◌∙◌, ap, ap₂, arith}
+use Rattle.std.proofs.Common.{◌≡◌, ◌≤◌, Bool, true, ◌&&◌, List, [], ◌∷◌, length, map, refl, sym, ◌∙◌, ap, ap₂, arith}
 use Rattle.std.proofs.lemmas.Bool.{and_from, and_parts, leb-true}
 use Rattle.std.proofs.lemmas.List.{length-map}
 use Rattle.std.proofs.lemmas.List.Folds.{list_all-append, list_all-map}
@@ -50,51 +50,52 @@ module _ {L : Type 0} (form : TreeForm L) where
 
   -- ---- the entries of a tree
 
-  abbrev Fits : List (Tree L) → Type 0
-  Fits entries = (1 ≤ length entries) × (list_all printable entries ≡ true)
+  -- there are some, and each can be written
+  abbrev HasEntries : List (Tree L) → Type 0
+  HasEntries entries = (1 ≤ length entries) × (list_all printable entries ≡ true)
 
-  alone : (t : Tree L) → printable t ≡ true → Fits (t ∷ [])
+  alone : (t : Tree L) → printable t ≡ true → HasEntries (t ∷ [])
   alone t e = (omega arith, and_from _ _ e refl)
 
-  listed : (parts : List (Tree L)) → is_list parts ≡ true → Fits parts
+  listed : (parts : List (Tree L)) → is_list parts ≡ true → HasEntries parts
   listed parts e =
       let both = and_parts (is_within 1 most_entries (length parts)) (list_all printable parts) e in
       (leb-true 1 (length parts) (and_parts _ _ both.0).0, both.1)
 
   or_entries_at-fit : (t : Tree L) (x : Node-F L (Node L) (Tree L)) → printable t ≡ node_is_printable form
       (opened (node_is_printable form) x)
-      → printable t ≡ true → Fits (or_entries_at t x)
+      → printable t ≡ true → HasEntries (or_entries_at t x)
   or_entries_at-fit t Node-F.Any h e = alone t e
   or_entries_at-fit t (Node-F.Leaf l) h e = alone t e
   or_entries_at-fit t (Node-F.And parts) h e = alone t e
   or_entries_at-fit t (Node-F.Or parts) h e = listed parts (sym (folded_list parts) ∙ sym h ∙ e)
   or_entries_at-fit t (Node-F.Not part) h e = alone t e
 
-  or_entries-fit : (t : Tree L) → printable t ≡ true → Fits (or_entries t)
+  pub or_entries-fit : (t : Tree L) → printable t ≡ true → HasEntries (or_entries t)
   or_entries-fit t e = or_entries_at-fit t (out-Node L (out-Tree L t).node) (fold-node (node_is_printable form) t) e
 
   and_entries_at-fit : (t : Tree L) (x : Node-F L (Node L) (Tree L)) → printable t ≡ node_is_printable form
       (opened (node_is_printable form) x)
-      → printable t ≡ true → Fits (and_entries_at t x)
+      → printable t ≡ true → HasEntries (and_entries_at t x)
   and_entries_at-fit t Node-F.Any h e = alone t e
   and_entries_at-fit t (Node-F.Leaf l) h e = alone t e
   and_entries_at-fit t (Node-F.And parts) h e = listed parts (sym (folded_list parts) ∙ sym h ∙ e)
   and_entries_at-fit t (Node-F.Or parts) h e = alone t e
   and_entries_at-fit t (Node-F.Not part) h e = alone t e
 
-  and_entries-fit : (t : Tree L) → printable t ≡ true → Fits (and_entries t)
+  pub and_entries-fit : (t : Tree L) → printable t ≡ true → HasEntries (and_entries t)
   and_entries-fit t e = and_entries_at-fit t (out-Node L (out-Tree L t).node) (fold-node (node_is_printable form) t) e
 
   -- ---- joined trees
 
-  all-fit : (entries : Tree L → List (Tree L)) → ((t : Tree L) → printable t ≡ true → Fits (entries t)) → (ts : List (Tree L))
+  all-fit : (entries : Tree L → List (Tree L)) → ((t : Tree L) → printable t ≡ true → HasEntries (entries t)) → (ts : List (Tree L))
       → list_all printable ts ≡ true → list_all printable (flat_map entries ts) ≡ true
   all-fit entries each [] e = refl
   all-fit entries each (t ∷ ts) e =
       let parts = and_parts (printable t) (list_all printable ts) e in
       list_all-append printable (entries t) (flat_map entries ts) ∙ and_from _ _ (each t parts.0).1 (all-fit entries each ts parts.1)
 
-  joined-fit : (entries : Tree L → List (Tree L)) → ((t : Tree L) → printable t ≡ true → Fits (entries t)) → (t : Tree L)
+  joined-fit : (entries : Tree L → List (Tree L)) → ((t : Tree L) → printable t ≡ true → HasEntries (entries t)) → (t : Tree L)
       (ts : List (Tree L))
       → list_all printable (t ∷ ts) ≡ true → total (λ u. length (entries u)) (t ∷ ts) ≤ 8192 → is_list (flat_map entries (t ∷ ts)) ≡ true
   joined-fit entries each t ts e few =
@@ -105,16 +106,13 @@ module _ {L : Type 0} (form : TreeForm L) where
       let most : length all ≤ 8192 = omega (arith, few, count) in
       and_from _ _ (within (length all) some most) (all-fit entries each (t ∷ ts) e)
 
-  pub printable-or_of : (ts : List (Tree L)) → 0 < length ts → list_all printable ts ≡ true → total or_width ts ≤ 8192
-      → printable (or_of ts) ≡ true
-  printable-or_of [] some e few = absurd (omega (arith, some))
-  printable-or_of (t ∷ []) some e few = (and_parts _ _ e).0
-  printable-or_of (t ∷ u ∷ ts) some e few =
-      printable-Or (flat_map or_entries (t ∷ u ∷ ts)) ∙ joined-fit or_entries or_entries-fit t (u ∷ ts) e few
+  pub printable-or_of : (t : Tree L) (ts : List (Tree L)) → list_all printable (t ∷ ts) ≡ true → total or_width (t ∷ ts) ≤ 8192
+      → printable (or_of (t ∷ ts)) ≡ true
+  printable-or_of t [] e few = (and_parts _ _ e).0
+  printable-or_of t (u ∷ us) e few = printable-Or (flat_map or_entries (t ∷ u ∷ us)) ∙ joined-fit or_entries or_entries-fit t (u ∷ us) e few
 
-  pub printable-and_of : (ts : List (Tree L)) → 0 < length ts → list_all printable ts ≡ true → total and_width ts ≤ 8192
-      → printable (and_of ts) ≡ true
-  printable-and_of [] some e few = absurd (omega (arith, some))
-  printable-and_of (t ∷ []) some e few = (and_parts _ _ e).0
-  printable-and_of (t ∷ u ∷ ts) some e few =
-      printable-And (flat_map and_entries (t ∷ u ∷ ts)) ∙ joined-fit and_entries and_entries-fit t (u ∷ ts) e few
+  pub printable-and_of : (t : Tree L) (ts : List (Tree L)) → list_all printable (t ∷ ts) ≡ true → total and_width (t ∷ ts) ≤ 8192
+      → printable (and_of (t ∷ ts)) ≡ true
+  printable-and_of t [] e few = (and_parts _ _ e).0
+  printable-and_of t (u ∷ us) e few =
+      printable-And (flat_map and_entries (t ∷ u ∷ us)) ∙ joined-fit and_entries and_entries-fit t (u ∷ us) e few

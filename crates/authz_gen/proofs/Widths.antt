@@ -1,10 +1,9 @@
 -- Trees that can be written: how many entries joined trees have.
-use Rattle.std.proofs.Common.{◌≡◌, ℕ, ◌+◌, ◌<◌, ◌≤◌, true, List, [], ◌∷◌, length, refl, sym, ◌∙◌, ap, arith, length-append}
-use Rattle.std.proofs.lemmas.Bool.{and_from, and_parts, eqb-true, le-leb}
-use Rattle.std.specs.List.{flat_map, list_all}
-use lib.Dec.{eqb}
+use Rattle.std.proofs.Common.{◌≡◌, ℕ, ◌+◌, ◌≤◌, true, List, [], ◌∷◌, length, refl, sym, ◌∙◌, ap, arith, length-append}
+use Rattle.std.proofs.lemmas.Bool.{and_from, le-leb}
+use Rattle.std.specs.List.{flat_map}
 use Rattle.mesh_policy.specs.Lists.{total}
-use Rattle.mesh_tree.specs.Joined.{and_entries, and_entries_at, or_entries, or_entries_at, or_of}
+use Rattle.mesh_tree.specs.Joined.{and_entries, and_entries_at, and_of, or_entries, or_entries_at, or_of}
 use Rattle.mesh_tree.specs.Tree.{node_of, tree_of}
 use Rattle.mesh_tree.specs.declared.tree.Node.{Node, Node-F, out-Node, out-roll-Node}
 use Rattle.mesh_tree.specs.declared.tree.Node.TheVariants as Node
@@ -64,7 +63,7 @@ module _ {L : Type 0} where
   or_width-Leaf leaf =
       opened-as (λ x. length (or_entries_at (tree_of (Node.Leaf leaf)) x)) (Node.Leaf leaf) (Node-F.Leaf leaf) (opened-Leaf leaf)
 
-  and_width-Or : (parts : List (Tree L)) → and_width (tree_of (Node.Or parts)) ≡ 1
+  pub and_width-Or : (parts : List (Tree L)) → and_width (tree_of (Node.Or parts)) ≡ 1
   and_width-Or parts =
       opened-as (λ x. length (and_entries_at (tree_of (Node.Or parts)) x)) (Node.Or parts) (Node-F.Or parts) (opened-Or parts)
 
@@ -76,17 +75,35 @@ module _ {L : Type 0} where
   and_width-Leaf leaf =
       opened-as (λ x. length (and_entries_at (tree_of (Node.Leaf leaf)) x)) (Node.Leaf leaf) (Node-F.Leaf leaf) (opened-Leaf leaf)
 
-  -- an Or has the entries of its parts
-  pub or_width-joined : (ts : List (Tree L)) → 0 < length ts → or_width (or_of ts) ≡ total or_width ts
-  or_width-joined [] some = absurd (omega (arith, some))
-  or_width-joined (t ∷ []) some = omega arith
-  or_width-joined (t ∷ u ∷ ts) some = or_width-Or (flat_map or_entries (t ∷ u ∷ ts)) ∙ length-flat or_entries (t ∷ u ∷ ts)
+  pub and_width-And : (parts : List (Tree L)) → and_width (tree_of (Node.And parts)) ≡ length parts
+  and_width-And parts =
+      opened-as (λ x. length (and_entries_at (tree_of (Node.And parts)) x)) (Node.And parts) (Node-F.And parts) (opened-And parts)
 
-  -- and is one entry of an And, where none of its parts is an And
-  pub and_width-or : (ts : List (Tree L)) → 0 < length ts → list_all (λ t. eqb (and_width t) 1) ts ≡ true → and_width (or_of ts) ≡ 1
-  and_width-or [] some each = absurd (omega (arith, some))
-  and_width-or (t ∷ []) some each = eqb-true (and_width t) 1 (and_parts _ _ each).0
-  and_width-or (t ∷ u ∷ ts) some each = and_width-Or (flat_map or_entries (t ∷ u ∷ ts))
+  -- ---- joined trees
+
+  -- an Or has the entries of its parts
+  pub or_width-or : (t : Tree L) (ts : List (Tree L)) → or_width (or_of (t ∷ ts)) ≡ total or_width (t ∷ ts)
+  or_width-or t [] = omega arith
+  or_width-or t (u ∷ us) = or_width-Or (flat_map or_entries (t ∷ u ∷ us)) ∙ length-flat or_entries (t ∷ u ∷ us)
+
+  -- an And too
+  pub and_width-and : (t : Tree L) (ts : List (Tree L)) → and_width (and_of (t ∷ ts)) ≡ total and_width (t ∷ ts)
+  and_width-and t [] = omega arith
+  and_width-and t (u ∷ us) = and_width-And (flat_map and_entries (t ∷ u ∷ us)) ∙ length-flat and_entries (t ∷ u ∷ us)
+
+  -- an Or is one entry of an And, if it is none of its parts
+  pub and_width-or : (t : Tree L) (ts : List (Tree L)) → 1 ≤ and_width t → and_width (or_of (t ∷ ts)) ≤ total and_width (t ∷ ts)
+  and_width-or t [] some = omega arith
+  and_width-or t (u ∷ us) some =
+      let one : and_width (or_of (t ∷ u ∷ us)) ≡ 1 = and_width-Or (flat_map or_entries (t ∷ u ∷ us)) in
+      omega (arith, one, some)
+
+  -- and an And one of an Or
+  pub or_width-and : (t : Tree L) (ts : List (Tree L)) → 1 ≤ or_width t → or_width (and_of (t ∷ ts)) ≤ total or_width (t ∷ ts)
+  or_width-and t [] some = omega arith
+  or_width-and t (u ∷ us) some =
+      let one : or_width (and_of (t ∷ u ∷ us)) ≡ 1 = or_width-And (flat_map and_entries (t ∷ u ∷ us)) in
+      omega (arith, one, some)
 
 abbrev any : (L : Type 0) → Tree L
 any L = tree_of Node.Any
@@ -97,3 +114,6 @@ opened-Any L = refl
 
 pub or_width-Any : (L : Type 0) → or_width (any L) ≡ 1
 or_width-Any L = opened-as (λ x. length (or_entries_at (any L) x)) Node.Any Node-F.Any (opened-Any L)
+
+pub and_width-Any : (L : Type 0) → and_width (any L) ≡ 1
+and_width-Any L = opened-as (λ x. length (and_entries_at (any L) x)) Node.Any Node-F.Any (opened-Any L)

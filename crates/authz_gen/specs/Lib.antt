@@ -1,3 +1,6 @@
+pub mod Conditions
 pub mod Lists
 pub mod Operations
 pub mod Policies
+pub mod Rules
+pub mod Sources

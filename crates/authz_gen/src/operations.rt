@@ -1,26 +1,16 @@
-// What the rules of a policy ask of a connection's destination, as permissions.
-ghost use Rattle.std.specs.Prelude.{◌≡◌, map, IfOk};
+// What an operation asks of a connection's destination, as a permission.
+ghost use Rattle.std.specs.Prelude.{◌≡◌, ◌++◌, map, IfOk, OnOk};
+ghost use Rattle.authz_gen.specs.Lists.{field_of};
 ghost use Rattle.authz_gen.specs.Operations as meaning;
 
-use crate::lists::{all_of, push_none_of, push_one_of};
+use crate::lists::{all_of, push_field};
 use envoy_types::PermissionLeaf;
-use mesh_policy::{OperationSpec, Rule};
+use mesh_policy::OperationSpec;
 use mesh_text::{List, Memory};
 use mesh_tree::Tree;
 use std::alloc::Global;
 
-// The permission of a rule: one of its operations, where it has any.
-#[tactic(auto, unfolding(crate::specs::Operations::permission_tcp))]
-pub fn permission_tcp(alloc: Global, rule: &Rule) -> Result<Tree<PermissionLeaf>, Memory>
-    ensures { IfOk result (λ t. t ≡ meaning.permission_tcp rule.now) }
-{
-    let operations = operation_trees(alloc, &rule.operations)?;
-    let mut parts = List::new(alloc);
-    push_one_of(alloc, &mut parts, operations)?;
-    all_of(alloc, parts)
-}
-
-fn operation_trees(
+pub fn operation_trees(
     alloc: Global,
     operations: &[OperationSpec],
 ) -> Result<List<Tree<PermissionLeaf>>, Memory>
@@ -38,12 +28,24 @@ fn operation_trees(
 fn operation_tcp(alloc: Global, operation: &OperationSpec) -> Result<Tree<PermissionLeaf>, Memory>
     ensures { IfOk result (λ t. t ≡ meaning.operation_tcp operation.now) }
 {
-    let ports = port_trees(alloc, &operation.ports)?;
-    let not_ports = port_trees(alloc, &operation.not_ports)?;
     let mut parts = List::new(alloc);
-    push_one_of(alloc, &mut parts, ports)?;
-    push_none_of(alloc, &mut parts, not_ports)?;
+    push_ports(alloc, &mut parts, &operation.ports, &operation.not_ports)?;
     all_of(alloc, parts)
+}
+
+// Adds a list of ports, of which one is asked for, and the negative list beside it.
+pub fn push_ports(
+    alloc: Global,
+    parts: &mut List<Tree<PermissionLeaf>>,
+    ports: &[u16],
+    not_ports: &[u16],
+) -> Result<(), Memory>
+    ensures { OnOk result (parts.new
+        ≡ parts.old ++ field_of (map meaning.port_tree ports.now) (map meaning.port_tree not_ports.now)) }
+{
+    let trees = port_trees(alloc, ports)?;
+    let not_trees = port_trees(alloc, not_ports)?;
+    push_field(alloc, parts, trees, not_trees)
 }
 
 fn port_trees(alloc: Global, ports: &[u16]) -> Result<List<Tree<PermissionLeaf>>, Memory>

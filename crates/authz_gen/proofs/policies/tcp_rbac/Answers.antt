@@ -2,9 +2,9 @@
 use Rattle.std.proofs.Common.{[], ap, subst, sym, ◌∙◌}
 use Rattle.envoy_types.specs.Order.{names_rise}
 use Rattle.envoy_types.specs.RbacForms.{rbac_is_printable}
-use Rattle.authz_gen.specs.Policies.{DecidesTcp, policies_tcp}
+use Rattle.authz_gen.specs.Policies.{DecidesTcp, RulesHoldAsPolicies, policies_tcp}
 use Rattle.authz_gen.proofs.Apart.{names-rise}
-use Rattle.authz_gen.proofs.Decided.{decides}
+use Rattle.authz_gen.proofs.Decided.{decides, rules-hold}
 use Rattle.authz_gen.proofs.Made.{made-is}
 use Rattle.authz_gen.proofs.Printable.{filter-fits, small-part}
 use Rattle.authz_gen.proofs.policies.tcp_rbac.Goals as goal
@@ -19,7 +19,14 @@ returns-clause-meaning c =
     subst (λ filter. DecidesTcp filter c.args.action c.args.policies.now)
     (sym (made-is c.args.action c.args.policies.now c.rbac_action.result c.in_ok-policies.policies c.in_ok-of.field-0
     c.rbac_action.ensures (c.in_ok-policies.ensures ∙ ap policies_tcp c.deref.ensures) c.in_ok-of.ensures))
-    (decides c.args.action c.args.policies.now c.requires.ports)
+    (decides c.args.action c.args.policies.now c.requires.accepted.each)
+
+pub returns-clause-rules : goal.returns-clause-rules
+returns-clause-rules c =
+    subst (λ filter. RulesHoldAsPolicies filter c.args.policies.now)
+    (sym (made-is c.args.action c.args.policies.now c.rbac_action.result c.in_ok-policies.policies c.in_ok-of.field-0
+    c.rbac_action.ensures (c.in_ok-policies.ensures ∙ ap policies_tcp c.deref.ensures) c.in_ok-of.ensures))
+    (rules-hold c.args.action c.args.policies.now c.requires)
 
 pub returns-clause-printable : goal.returns-clause-printable
 returns-clause-printable c =

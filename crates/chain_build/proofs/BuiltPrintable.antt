@@ -18,9 +18,8 @@ use Rattle.envoy_types.specs.ListenerForms.{is_printable}
 use Rattle.envoy_types.specs.declared.chains.Listener.{Listener}
 use Rattle.envoy_types.specs.declared.chains.NetworkFilter.{NetworkFilter}
 use Rattle.envoy_types.specs.declared.chains.NetworkFilter.TheVariants as filter
-use Rattle.authz_gen.specs.Policies.{AreTcpPolicies, tcp_rbac}
+use Rattle.authz_gen.specs.Policies.{ArePoliciesOf, tcp_rbac}
 use Rattle.authz_gen.proofs.Printable.{IsSmall, filter-fits, small-part}
-use Rattle.chain_build.specs.Buildable.{IsBuildable}
 use Rattle.chain_build.specs.Filters.{filters_for, tcp_filters}
 use Rattle.chain_build.specs.Listener.{built, chains_with}
 use Rattle.chain_build.proofs.Enforced.{allow-policies, audit-policies, deny-policies}
@@ -55,7 +54,7 @@ small-parts xs ys small =
 abbrev Fits : List NetworkFilter → Type 0
 Fits filters = (length filters ≤ 1) × (list_all network_filter_is_printable filters ≡ true)
 
-filter-list : (action : Action) (policies : List AuthorizationPolicy) → AreTcpPolicies action policies → IsSmall (size policies)
+filter-list : (action : Action) (policies : List AuthorizationPolicy) → ArePoliciesOf action policies → IsSmall (size policies)
     → Fits (filters_for action policies)
 unfolding network_filter_is_printable
 filter-list action [] h small = (omega arith, refl)
@@ -73,32 +72,32 @@ joined-fit xs ys zs hx hy hz =
     (list_all-append network_filter_is_printable (xs ++ ys) zs
     ∙ and_from _ _ (list_all-append network_filter_is_printable xs ys ∙ and_from _ _ hx.1 hy.1) hz.1)
 
-filters-fit : (workload : Workload) → KeepsLimits workload → IsBuildable workload
+filters-fit : (workload : Workload) → KeepsLimits workload
     → filters_are_printable network_filter_is_printable (tcp_filters workload) ≡ true
 unfolding tcp_filters
-filters-fit workload limits h =
+filters-fit workload limits =
     let all = small-part (workload.allow ++ workload.deny ++ workload.audit ++ workload.custom) workload.jwt_rules limits.size in
     let three = (small-parts (workload.allow ++ workload.deny ++ workload.audit) workload.custom all).0 in
     let two = small-parts (workload.allow ++ workload.deny) workload.audit three in
     let one = small-parts workload.allow workload.deny two.0 in
     joined-fit (filters_for Audit workload.audit) (filters_for Deny workload.deny) (filters_for Allow workload.allow)
-    (filter-list Audit workload.audit (audit-policies workload limits h workload.audit refl) two.1)
-    (filter-list Deny workload.deny (deny-policies workload limits h workload.deny refl) one.1)
-    (filter-list Allow workload.allow (allow-policies workload limits h workload.allow refl) one.0)
+    (filter-list Audit workload.audit (audit-policies workload limits workload.audit refl) two.1)
+    (filter-list Deny workload.deny (deny-policies workload limits workload.deny refl) one.1)
+    (filter-list Allow workload.allow (allow-policies workload limits workload.allow refl) one.0)
 
 -- ---- the listener
 
-pub built-printable : (workload : Workload) → KeepsLimits workload → IsBuildable workload → is_printable (built workload) ≡ true
+pub built-printable : (workload : Workload) → KeepsLimits workload → is_printable (built workload) ≡ true
 unfolding is_printable built chains_with
-built-printable workload limits h =
+built-printable workload limits =
     let filters = tcp_filters workload in
     let count = all-count filters workload.other_mode workload.ports limits.ports in
     and_from _ _ (and_from _ _ (and_from _ _ refl (and_from _ _ (le-leb 1 _ count.0) (le-leb _ 2048 (omega (arith, count.1)))))
-    (all-fit filters (filters-fit workload limits h) workload.other_mode workload.ports limits.numbers))
+    (all-fit filters (filters-fit workload limits) workload.other_mode workload.ports limits.numbers))
     (all-distinct filters workload.other_mode workload.ports limits.rising)
 
 -- where there was memory
-pub can-be-written : (workload : Workload) → KeepsLimits workload → IsBuildable workload
+pub can-be-written : (workload : Workload) → KeepsLimits workload
     → (r : Result Listener Memory) → IfOk r (λ listener. listener ≡ built workload) → IfOk r (λ listener. IsTrue (is_printable listener))
-can-be-written workload limits h (Ok listener) e = ap is_printable e ∙ built-printable workload limits h
-can-be-written workload limits h (Err e) shape = tt
+can-be-written workload limits (Ok listener) e = ap is_printable e ∙ built-printable workload limits
+can-be-written workload limits (Err e) shape = tt

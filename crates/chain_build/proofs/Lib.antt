@@ -7,6 +7,7 @@ pub mod Numbers
 pub mod Ports
 pub mod Printable
 pub mod Pruned
+pub mod RulesLow
 pub mod Shallow
 pub mod Small
 pub mod TreesSmall

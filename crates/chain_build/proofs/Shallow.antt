@@ -1,5 +1,6 @@
 -- The value that is written of the listener that is built is nested little, and holds no float.
-use Rattle.std.proofs.Common.{◌≡◌, ℕ, suc, ◌+◌, ◌≤◌, Bool, true, false, List, [], ◌∷◌, ◌++◌, codes, Option, None, Some, length, map, refl}
+use Rattle.std.proofs.Common.{◌≡◌, ℕ, suc, ◌≤◌, Bool, true, false, List, [], ◌∷◌, ◌++◌, codes, filter, length, map, refl}
+use Rattle.std.proofs.Common.{Option, None, Some}
 use Rattle.std.proofs.Common.{◌∙◌, Result, Ok, Err, IfOk, ap, subst, sym}
 use Rattle.std.proofs.Math.Dec.{eqb-suc-zero}
 use Rattle.std.proofs.lemmas.Bool.{and_from, and_parts}
@@ -16,12 +17,11 @@ use Rattle.mesh_policy.specs.declared.peer.Mode.TheVariants.{Disable, Permissive
 use Rattle.mesh_policy.specs.declared.policy.Action.{Action}
 use Rattle.mesh_policy.specs.declared.policy.Action.TheVariants.{Allow, Deny, Audit}
 use Rattle.mesh_policy.specs.declared.policy.AuthorizationPolicy.{AuthorizationPolicy}
-use Rattle.mesh_policy.specs.declared.policy.OperationSpec.{OperationSpec}
 use Rattle.mesh_policy.specs.declared.policy.Rule.{Rule}
 use Rattle.envoy_types.specs.ChainForms.{chain_written, match_written, socket_field, transport_written}
 use Rattle.envoy_types.specs.FilterForms.{body_written, network_filter_written, proxy_written}
 use Rattle.envoy_types.specs.ListenerForms.{address_written, listener_written}
-use Rattle.envoy_types.specs.PermissionForms.{permission_form, permission_leaf_written}
+use Rattle.envoy_types.specs.PermissionForms.{permission_form}
 use Rattle.envoy_types.specs.PrincipalForms.{principal_form}
 use Rattle.envoy_types.specs.RbacForms.{action_word, network_rbac_written, policy_written, rbac_fields, rules_written}
 use Rattle.envoy_types.specs.SocketForms.{certificates_written, listener_filters_written, socket_written}
@@ -43,66 +43,41 @@ use Rattle.envoy_types.specs.declared.keys.TheConstants.{FILTER_CHAIN_MATCH, LIS
 use Rattle.envoy_types.specs.declared.keys.TheConstants.{STAT_PREFIX}
 use Rattle.envoy_types.specs.declared.keys.TheConstants.{TRAFFIC_DIRECTION, TRANSPORT_PROTOCOL}
 use Rattle.envoy_types.specs.declared.names.TheConstants.{NETWORK_RBAC_NAME, NETWORK_RBAC_TYPE, TCP_PROXY_NAME, TCP_PROXY_TYPE}
-use Rattle.envoy_types.specs.declared.permission.PermissionLeaf.TheVariants.{DestinationPort}
-use Rattle.authz_gen.specs.Operations.{operation_tcp, permission_tcp, port_tree}
-use Rattle.authz_gen.specs.Policies.{anyone, name_before, policies_tcp, rbac_action, rule_policies_tcp, rule_policy_tcp, tcp_rbac}
+use Rattle.authz_gen.specs.Rules.{permission_tcp, principal_tcp}
+use Rattle.authz_gen.specs.Policies.{has_policy, name_before, policies_tcp, rbac_action, rule_policies_tcp, rule_policy_tcp, tcp_rbac}
 use Rattle.authz_gen.proofs.InOrder.{all-in_order}
 use Rattle.chain_build.specs.Chains.{cluster_of, tcp_chain, tcp_chains}
 use Rattle.chain_build.specs.Filters.{filters_for, tcp_filters}
 use Rattle.chain_build.specs.Listener.{built, chains_of_port, chains_with}
 use Rattle.chain_build.proofs.Small.{config-small, each_small, is_small, list-small, map-small, named-small}
 use Rattle.chain_build.proofs.Small.{object-small, small-depth, small-whole, value_small}
-use Rattle.chain_build.proofs.TreesSmall.{all_low, low, low-all_of, low-any, low-field, low-if_or, low-leaf}
-
--- ---- permissions
-
-port-low : (n port : ℕ) → low permission_form (suc n) (port_tree port) ≡ true
-unfolding permission_leaf_written
-port-low n port = low-leaf permission_form (suc n) (DestinationPort port) refl
-
-ports-low : (n : ℕ) (ports : List ℕ) → all_low permission_form (suc n) (map port_tree ports) ≡ true
-ports-low n [] = refl
-ports-low n (port ∷ ports) = and_from _ _ (port-low n port) (ports-low n ports)
-
-operation-low : (operation : OperationSpec) → low permission_form 110 (operation_tcp operation) ≡ true
-unfolding operation_tcp
-operation-low operation =
-    low-all_of permission_form 107 _
-    (low-field permission_form 103 _ _ (ports-low 102 operation.ports) (ports-low 102 operation.not_ports))
-
-operations-low : (operations : List OperationSpec) → all_low permission_form 110 (map operation_tcp operations) ≡ true
-operations-low [] = refl
-operations-low (operation ∷ operations) = and_from _ _ (operation-low operation) (operations-low operations)
-
-permission-low : (rule : Rule) → low permission_form 116 (permission_tcp rule) ≡ true
-unfolding permission_tcp
-permission-low rule = low-all_of permission_form 113 _ (low-if_or permission_form 110 _ (operations-low rule.operations))
+use Rattle.chain_build.proofs.RulesLow.{permission-low, principal-low}
 
 -- ---- policies
 
-policy-small : (policy : AuthorizationPolicy) (index : ℕ) (rule : Rule)
-    → is_small 118 (policy_written (rule_policy_tcp policy (index, rule))) ≡ true
+policy-small : (policy : AuthorizationPolicy) (entry : ℕ × Rule) → is_small 118 (policy_written (rule_policy_tcp policy entry)) ≡ true
 unfolding policy_written rule_policy_tcp
-policy-small policy index rule =
-    let permissions = list_written (tree_written permission_form) (permission_tcp rule ∷ []) in
-    let principals = list_written (tree_written principal_form) (anyone ∷ []) in
+policy-small policy entry =
+    let permissions = list_written (tree_written permission_form) (permission_tcp entry.1 ∷ []) in
+    let principals = list_written (tree_written principal_form) (principal_tcp entry.1 ∷ []) in
     object-small 117 (field PERMISSIONS.now permissions ∷ field PRINCIPALS.now principals ∷ [])
-    (and_from _ _ (list-small (tree_written permission_form) 116 (permission_tcp rule ∷ []) (and_from _ _ (permission-low rule) refl))
-    (and_from _ _ (list-small (tree_written principal_form) 116 (anyone ∷ []) (and_from _ _ (low-any principal_form 115) refl)) refl))
+    (and_from _ _
+    (list-small (tree_written permission_form) 116 (permission_tcp entry.1 ∷ []) (and_from _ _ (permission-low entry.1) refl))
+    (and_from _ _
+    (list-small (tree_written principal_form) 116 (principal_tcp entry.1 ∷ []) (and_from _ _ (principal-low entry.1) refl)) refl))
 
 abbrev policies_small : List RbacPolicy → Bool
 policies_small policies = each_small policy_written 118 policies
 
-rules-small : (policy : AuthorizationPolicy) (index : ℕ) (rules : List Rule)
-    → policies_small (map (rule_policy_tcp policy) (enumerate_from index rules)) ≡ true
-rules-small policy index [] = refl
-rules-small policy index (rule ∷ rules) = and_from _ _ (policy-small policy index rule) (rules-small policy (index + 1) rules)
+rules-small : (policy : AuthorizationPolicy) (entries : List (ℕ × Rule)) → policies_small (map (rule_policy_tcp policy) entries) ≡ true
+rules-small policy [] = refl
+rules-small policy (entry ∷ entries) = and_from _ _ (policy-small policy entry) (rules-small policy entries)
 
 each-policy : (policies : List AuthorizationPolicy) → policies_small (flat_map rule_policies_tcp policies) ≡ true
 each-policy [] = refl
 each-policy (policy ∷ policies) =
     list_all-append (λ made. is_small 118 (policy_written made)) (rule_policies_tcp policy) (flat_map rule_policies_tcp policies)
-    ∙ and_from _ _ (rules-small policy 0 policy.rules) (each-policy policies)
+    ∙ and_from _ _ (rules-small policy (filter (has_policy policy.action) (enumerate_from 0 policy.rules))) (each-policy policies)
 
 policies-small : (policies : List AuthorizationPolicy) → policies_small (policies_tcp policies) ≡ true
 unfolding policies_tcp

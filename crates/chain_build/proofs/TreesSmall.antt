@@ -33,6 +33,14 @@ module _ {L : Type 0} (form : TreeForm L) where
   deeper-3 : (n : ℕ) (trees : List (Tree L)) → all_low n trees ≡ true → all_low (suc (suc (suc n))) trees ≡ true
   deeper-3 n trees h = deeper (suc (suc n)) trees (deeper (suc n) trees (deeper n trees h))
 
+  -- one more level goes as well, and four
+  pub low-deeper : (n : ℕ) (tree : Tree L) → low n tree ≡ true → low (suc n) tree ≡ true
+  low-deeper n tree h = small-deeper n (tree_written form tree) h
+
+  pub low-deeper-4 : (n : ℕ) (tree : Tree L) → low n tree ≡ true → low (suc (suc (suc (suc n)))) tree ≡ true
+  low-deeper-4 n tree h =
+      low-deeper (suc (suc (suc n))) tree (low-deeper (suc (suc n)) tree (low-deeper (suc n) tree (low-deeper n tree h)))
+
   -- ---- nodes
 
   pub low-any : (n : ℕ) → low (suc n) (tree_of Node.Any) ≡ true
@@ -49,7 +57,7 @@ module _ {L : Type 0} (form : TreeForm L) where
       ∙ ap (fold-Node L Data Data (node_written form) (λ t. t.node)) (sym (Node.rolls-Not tree))
       ∙ fold-roll-Node L Data Data (node_written form) (λ t. t.node) (Node-F.Not tree)
 
-  low-not : (n : ℕ) (tree : Tree L) → low n tree ≡ true → low (suc n) (tree_of (Node.Not tree)) ≡ true
+  pub low-not : (n : ℕ) (tree : Tree L) → low n tree ≡ true → low (suc n) (tree_of (Node.Not tree)) ≡ true
   low-not n tree h = ap (is_small (suc n)) (not-written tree) ∙ and-true (low n tree) ∙ h
 
   -- a list of trees under the names of its alternative and of its parts

@@ -2,7 +2,6 @@
 ghost use Rattle.std.specs.Prelude.{◌≡◌, ◌++◌, ◌∷◌, [], true, false, Some, None, codes, IfOk, OnOk};
 ghost use Rattle.mesh_policy.specs.Connection as connection;
 ghost use Rattle.envoy_types.specs.declared.chains.Transport.TheVariants as transport;
-ghost use Rattle.chain_build.specs.Buildable.{IsBuildable};
 ghost use Rattle.chain_build.specs.Chains as meaning;
 ghost use Rattle.chain_build.specs.Filters.{tcp_filters as filters_of};
 
@@ -22,7 +21,6 @@ pub fn push_chains(
     port: Option<u16>,
     mode: Mode,
 ) -> Result<(), Memory>
-    requires { IsBuildable workload.now }
     ensures { OnOk result (chains.new ≡ chains.old ++ meaning.tcp_chains mode port (filters_of workload.now)) }
 {
     match mode {
@@ -49,7 +47,6 @@ fn strict_chain(
     workload: &Workload,
     port: Option<u16>,
 ) -> Result<FilterChain, Memory>
-    requires { IsBuildable workload.now }
     ensures { IfOk result (λ c. c ≡ meaning.tcp_chain port (codes "-mtls") (Some transport.Tls) [] true (filters_of workload.now)) }
 {
     let matching = matching(port, Some(Transport::Tls), List::new(alloc));
@@ -62,7 +59,6 @@ fn mutual_chain(
     workload: &Workload,
     port: Option<u16>,
 ) -> Result<FilterChain, Memory>
-    requires { IsBuildable workload.now }
     ensures { IfOk result (λ c. c
         ≡ meaning.tcp_chain port (codes "-mtls") (Some transport.Tls) connection.mesh_names true (filters_of workload.now)) }
 {
@@ -72,7 +68,6 @@ fn mutual_chain(
 
 // Plain text.
 fn plain_chain(alloc: Global, workload: &Workload, port: Option<u16>) -> Result<FilterChain, Memory>
-    requires { IsBuildable workload.now }
     ensures { IfOk result (λ c. c
         ≡ meaning.tcp_chain port (codes "-plain") (Some transport.RawBuffer) [] false (filters_of workload.now)) }
 {
@@ -86,7 +81,6 @@ fn opaque_chain(
     workload: &Workload,
     port: Option<u16>,
 ) -> Result<FilterChain, Memory>
-    requires { IsBuildable workload.now }
     ensures { IfOk result (λ c. c ≡ meaning.tcp_chain port (codes "-opaque") (Some transport.Tls) [] false (filters_of workload.now)) }
 {
     let matching = matching(port, Some(Transport::Tls), List::new(alloc));
@@ -95,7 +89,6 @@ fn opaque_chain(
 
 // Plain text, and TLS that is passed on unread.
 fn open_chain(alloc: Global, workload: &Workload, port: Option<u16>) -> Result<FilterChain, Memory>
-    requires { IsBuildable workload.now }
     ensures { IfOk result (λ c. c ≡ meaning.tcp_chain port (codes "-plain") None [] false (filters_of workload.now)) }
 {
     let matching = matching(port, None, List::new(alloc));
@@ -132,7 +125,6 @@ fn tcp_chain(
     matching: ChainMatch,
     mutual_tls: bool,
 ) -> Result<FilterChain, Memory>
-    requires { IsBuildable workload.now }
     ensures { IfOk result (λ c. c
         ≡ meaning.tcp_chain matching.port ending.now matching.transport matching.alpn mutual_tls (filters_of workload.now)) }
 {

@@ -1,7 +1,6 @@
 // The filters of a TCP chain.
 ghost use Rattle.std.specs.Prelude.{◌≡◌, ◌++◌, IfOk, OnOk};
-ghost use Rattle.authz_gen.specs.Policies.{AreTcpPolicies};
-ghost use Rattle.chain_build.specs.Buildable.{IsBuildable};
+ghost use Rattle.authz_gen.specs.Policies.{ArePoliciesOf};
 ghost use Rattle.chain_build.specs.Filters as meaning;
 
 use authz_gen::tcp_rbac;
@@ -14,7 +13,6 @@ use std::alloc::Global;
 // In the order in which the actions decide.
 #[tactic(auto, unfolding(crate::specs::Filters::tcp_filters))]
 pub fn tcp_filters(alloc: Global, workload: &Workload) -> Result<List<NetworkFilter>, Memory>
-    requires { IsBuildable workload.now }
     ensures { IfOk result (λ filters. filters ≡ meaning.tcp_filters workload.now) }
 {
     workload.limits();
@@ -35,7 +33,7 @@ fn push_filter(
     policies: &List<AuthorizationPolicy>,
     action: Action,
 ) -> Result<(), Memory>
-    requires { AreTcpPolicies action policies.now }
+    requires { ArePoliciesOf action policies.now }
     ensures { OnOk result (filters.new ≡ filters.old ++ meaning.filters_for action policies.now) }
 {
     if policies.is_empty() {

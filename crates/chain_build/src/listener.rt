@@ -3,6 +3,7 @@ ghost use Rattle.std.specs.Prelude.{◌≡◌, ◌≤◌, ◌++◌, false, Some,
 ghost use Rattle.serde_json.specs.Data.{depth};
 ghost use Rattle.serde_json.specs.Written.{has_float};
 ghost use Rattle.mesh_policy.specs.Verdicts.{verdict_of};
+ghost use Rattle.mesh_policy.specs.WellFormedCase.{WellFormedCase};
 ghost use Rattle.mesh_policy.specs.Workload.{listed_of, mode_of};
 ghost use Rattle.mesh_policy.specs.declared.case.Case.{Case};
 ghost use Rattle.envoy_types.specs.ListenerForms.{is_printable, listener_written};
@@ -19,15 +20,16 @@ use mesh_text::{List, Memory, Text};
 use std::alloc::Global;
 
 /// The listener of a workload. It has the chains of each listed port, ascending, by the port's mode, and then those of all
-/// other ports, which name none. It can be written as JSON, which is nested at most 126 deep, and gives each connection the
-/// verdict of the policies.
+/// other ports, which name none. It can be written as JSON, which is nested at most 126 deep, and gives each well-formed
+/// connection the verdict of the policies.
 pub fn build(alloc: Global, w: &Workload) -> Result<Listener, Memory>
     requires { IsBuildable w.now }
     ensures shape { IfOk result (λ listener. listener ≡ meaning.built w.now) }
     ensures printable { IfOk result (λ listener. IsTrue (is_printable listener)) }
     ensures shallow { IfOk result (λ listener. depth (listener_written listener) ≤ 126) }
     ensures no_float { IfOk result (λ listener. has_float (listener_written listener) ≡ false) }
-    ensures verdicts { IfOk result (λ listener. (case : Case) → envoy_verdict listener case ≡ verdict_of w.now case) }
+    ensures verdicts { IfOk result (λ listener.
+        (case : Case) → WellFormedCase case w.now.jwt_rules → envoy_verdict listener case ≡ verdict_of w.now case) }
 {
     w.limits();
     built(alloc, w)
@@ -35,7 +37,6 @@ pub fn build(alloc: Global, w: &Workload) -> Result<Listener, Memory>
 
 #[tactic(auto, unfolding(crate::specs::Listener::built))]
 fn built(alloc: Global, workload: &Workload) -> Result<Listener, Memory>
-    requires { IsBuildable workload.now }
     ensures { IfOk result (λ listener. listener ≡ meaning.built workload.now) }
 {
     let chains = chains(alloc, workload)?;
@@ -49,7 +50,6 @@ fn built(alloc: Global, workload: &Workload) -> Result<Listener, Memory>
 
 #[tactic(auto, unfolding(crate::specs::Listener::chains_with))]
 fn chains(alloc: Global, workload: &Workload) -> Result<List<FilterChain>, Memory>
-    requires { IsBuildable workload.now }
     ensures { IfOk result (λ chains. chains ≡ meaning.chains_with workload.now (tcp_filters workload.now)) }
 {
     workload.limits();
@@ -60,7 +60,6 @@ fn chains(alloc: Global, workload: &Workload) -> Result<List<FilterChain>, Memor
 
 // The chains of the listed ports.
 fn listed_chains(alloc: Global, workload: &Workload) -> Result<List<FilterChain>, Memory>
-    requires { IsBuildable workload.now }
     ensures { IfOk result (λ chains. chains
         ≡ flat_map (λ port. tcp_chains (mode_of workload.now port) (Some port) (tcp_filters workload.now)) (listed_of workload.now)) }
 {

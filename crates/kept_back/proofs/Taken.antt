@@ -23,14 +23,14 @@ use Rattle.mesh_policy.specs.declared.service.Service.{Service}
 use Rattle.kept_back.specs.Items.{item_kept, kind_kept}
 use Rattle.kept_back.specs.Manifests.{document_kept, not_yet}
 use Rattle.kept_back.specs.declared.manifests.TheConstants.{ITEMS}
-use Rattle.kept_back.proofs.Asked.{IsTcpService, allows_ports, policy, service}
+use Rattle.kept_back.proofs.Asked.{IsTcpService, asks_nobody, policy, service}
 
 -- ---- items
 
 TakenItem : Item → Type 0
 TakenItem (item.Pod p) = Unit {0}
 TakenItem (item.Service s) = IsTcpService s
-TakenItem (item.Authorization p) = allows_ports p ≡ true
+TakenItem (item.Authorization p) = asks_nobody p ≡ true
 TakenItem (item.Peer p) = Unit {0}
 TakenItem (item.Request r) = Unit {0}
 TakenItem (item.Mesh m) = Unit {0}
@@ -65,24 +65,24 @@ taken_items d h = of_items (is_list d) d [] h
 
 -- ---- the bundle
 
--- Each policy is of action ALLOW, with rules that ask for ports alone, and no port of a Service carries HTTP.
+-- No policy asks for an authorizer, and no port of a Service carries HTTP.
 pub record IsTaken (bundle : Bundle) : Type 0 where
-  pub policies : list_all allows_ports bundle.authorization ≡ true
+  pub policies : list_all asks_nobody bundle.authorization ≡ true
   pub services : All IsTcpService bundle.services
 
-next_policy : (x : Item) (rest : List AuthorizationPolicy) → TakenItem x → All (λ p. allows_ports p ≡ true) rest
-    → All (λ p. allows_ports p ≡ true) (cons_option (as_authorization x) rest)
+next_policy : (x : Item) (rest : List AuthorizationPolicy) → TakenItem x → All (λ p. asks_nobody p ≡ true) rest
+    → All (λ p. asks_nobody p ≡ true) (cons_option (as_authorization x) rest)
 unfolding TakenItem
 next_policy (item.Pod p) rest t h = h
 next_policy (item.Service s) rest t h = h
-next_policy (item.Authorization p) rest t h = All-cons (λ p. allows_ports p ≡ true) p rest t h
+next_policy (item.Authorization p) rest t h = All-cons (λ p. asks_nobody p ≡ true) p rest t h
 next_policy (item.Peer p) rest t h = h
 next_policy (item.Request r) rest t h = h
 next_policy (item.Mesh m) rest t h = h
 next_policy item.Other rest t h = h
 
-policies_of : (items : List Item) → All TakenItem items → All (λ p. allows_ports p ≡ true) (filter_map as_authorization items)
-policies_of [] h = All-nil (λ p. allows_ports p ≡ true)
+policies_of : (items : List Item) → All TakenItem items → All (λ p. asks_nobody p ≡ true) (filter_map as_authorization items)
+policies_of [] h = All-nil (λ p. asks_nobody p ≡ true)
 policies_of (x ∷ xs) h = next_policy x _ (All-head TakenItem x xs h) (policies_of xs (All-tail TakenItem x xs h))
 
 next_service : (x : Item) (rest : List Service) → TakenItem x → All IsTcpService rest → All IsTcpService (cons_option (as_service x) rest)
@@ -108,6 +108,6 @@ unfolding not_yet bundle_in
 taken d h =
     let items = taken_items d (no_place _ h) in
     record {
-      policies = list_all-from_AllPass allows_ports _ (policies_of (items_in d) items);
+      policies = list_all-from_AllPass asks_nobody _ (policies_of (items_in d) items);
       services = services_of (items_in d) items;
     }

@@ -1,5 +1,5 @@
 -- A workload of such manifests is one that a listener is built for.
-use Rattle.std.proofs.Common.{◌≡◌, ℕ, ◌==◌, Bool, true, false, ◌&&◌, ◌||◌, List, [], ◌∷◌, Option, Some, None}
+use Rattle.std.proofs.Common.{◌≡◌, ℕ, ◌==◌, Bool, true, false, not, ◌&&◌, ◌||◌, List, [], ◌∷◌, Option, Some, None}
 use Rattle.std.proofs.Common.{filter, filter_map, flat_map, option_map, Result, Ok, Err, All, refl, sym, ◌∙◌}
 use Rattle.std.proofs.lemmas.List.Elements.{All-append, All-cons, All-filter, All-head, All-map, All-nil, All-tail}
 use Rattle.std.proofs.lemmas.List.Sums.{AllPass-from_list_all}
@@ -22,10 +22,9 @@ use Rattle.mesh_policy.specs.declared.service.Protocol.{Protocol}
 use Rattle.mesh_policy.specs.declared.service.Protocol.TheVariants.{Tcp}
 use Rattle.mesh_policy.specs.declared.service.Service.{Service}
 use Rattle.mesh_policy.specs.declared.service.ServicePort.{ServicePort}
-use Rattle.authz_gen.specs.Operations.{asks_for_ports}
-use Rattle.chain_build.specs.Buildable.{AskForPorts, IsBuildable}
+use Rattle.chain_build.specs.Buildable.{IsBuildable}
 use Rattle.kept_back.specs.Manifests.{not_yet}
-use Rattle.kept_back.proofs.Asked.{IsTcpService, allows_ports}
+use Rattle.kept_back.proofs.Asked.{IsTcpService, asks_nobody}
 use Rattle.kept_back.proofs.Taken.{IsTaken, taken}
 
 -- ---- ports
@@ -74,32 +73,22 @@ each_tcp bundle pod (n ∷ ns) h =
 
 -- ---- policies
 
-applying : (bundle : Bundle) (pod : Pod) → list_all allows_ports bundle.authorization ≡ true
-    → list_all allows_ports (authorization_of bundle pod) ≡ true
+applying : (bundle : Bundle) (pod : Pod) → list_all asks_nobody bundle.authorization ≡ true
+    → list_all asks_nobody (authorization_of bundle pod) ≡ true
 applying bundle pod h =
     let here = λ (p : AuthorizationPolicy). applies bundle.mesh.root pod p.namespace p.labels in
-    list_all-in_order (λ p q. comes_before (p.namespace, p.name) (q.namespace, q.name)) allows_ports (filter here bundle.authorization)
-    ∙ list_all-filter allows_ports here bundle.authorization h
+    list_all-in_order (λ p q. comes_before (p.namespace, p.name) (q.namespace, q.name)) asks_nobody (filter here bundle.authorization)
+    ∙ list_all-filter asks_nobody here bundle.authorization h
 
-ask_for_ports : (action : Action) (bundle : Bundle) (pod : Pod) → list_all allows_ports bundle.authorization ≡ true
-    → AskForPorts (policies_of action bundle pod)
-ask_for_ports action bundle pod h =
-    AllPass-from_list_all (λ policy. list_all asks_for_ports policy.rules) _
-    (list_all-weaker allows_ports (λ policy. list_all asks_for_ports policy.rules) (λ policy passes. right_of _ _ passes)
-    (policies_of action bundle pod)
-    (list_all-filter allows_ports (λ policy. is_action action policy.action) (authorization_of bundle pod) (applying bundle pod h)))
+not_custom : (b : Bool) → not b ≡ true → b ≡ false
+not_custom true h = cc
+not_custom false h = refl
 
-not_custom : (action : Action) → is_action Allow action ≡ true → is_action Custom action ≡ false
-not_custom Allow h = refl
-not_custom Deny h = cc
-not_custom Audit h = cc
-not_custom Custom h = cc
-
-none_custom : (policies : List AuthorizationPolicy) → list_all allows_ports policies ≡ true
+none_custom : (policies : List AuthorizationPolicy) → list_all asks_nobody policies ≡ true
     → filter (λ policy. is_action Custom policy.action) policies ≡ []
 none_custom [] h = refl
 none_custom (p ∷ ps) h =
-    rw (not_custom p.action (left_of _ _ (left_of _ _ h))) (none_custom ps (right_of _ _ h))
+    rw (not_custom (is_action Custom p.action) (left_of _ _ h)) (none_custom ps (right_of _ _ h))
 
 -- ---- the workload
 
@@ -109,9 +98,6 @@ buildable bundle pod t = record {
   protocols =
       let numbers = listed bundle pod in
       All-map (λ port. port.protocol ≡ Tcp) (port_of bundle pod) numbers (each_tcp bundle pod numbers t.services);
-  allow = ask_for_ports Allow bundle pod t.policies;
-  deny = ask_for_ports Deny bundle pod t.policies;
-  audit = ask_for_ports Audit bundle pod t.policies;
   custom = none_custom (authorization_of bundle pod) (applying bundle pod t.policies);
 }
 

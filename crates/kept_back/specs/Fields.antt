@@ -11,10 +11,10 @@ use Rattle.policy_json.specs.TargetRefs.{is_empty_list}
 abbrev pub whole_kept : Check
 whole_kept d at = fault UnknownField at
 
--- one is built for the values that pass the test
-abbrev pub unless_kept : (Data → Bool) → Check
-unless_kept test = demands test UnknownField
+-- one is built for the values that pass the test alone
+abbrev pub kept_unless : (Data → Bool) → Check
+kept_unless test = demands test UnknownField
 
 -- one is built where a list of the object has no entry: it is absent, `null` or empty
 unfoldable pub no_entries : List ℕ → Check
-no_entries name = optional name (unless_kept is_empty_list)
+no_entries name = optional name (kept_unless is_empty_list)

@@ -8,7 +8,7 @@ use Rattle.mesh_doc.specs.Kinds.{text_in}
 use Rattle.mesh_doc.specs.Lists.{listed}
 use Rattle.manifest_json.specs.Ports.{has_other_protocol, unless_passed}
 use Rattle.mesh_policy.specs.Ports.{is_http, protocol_by}
-use Rattle.kept_back.specs.Fields.{unless_kept}
+use Rattle.kept_back.specs.Fields.{kept_unless}
 use Rattle.kept_back.specs.declared.items.TheConstants.{SPEC}
 use Rattle.kept_back.specs.declared.services.TheConstants.{PORTS, NAME, APP_PROTOCOL}
 
@@ -18,7 +18,7 @@ speaks_http d = is_http (protocol_by (optional_in APP_PROTOCOL.now text_in d) (o
 
 -- an HTTP port, unless the entry is passed over
 unfoldable pub port_kept : Check
-port_kept = unless_passed has_other_protocol (unless_kept (λ d. not (speaks_http d)))
+port_kept = unless_passed has_other_protocol (kept_unless (λ d. not (speaks_http d)))
 
 -- the `spec`
 unfoldable pub ports_kept : Check

@@ -5,7 +5,7 @@ ghost use Rattle.mesh_doc.specs.Faults.{Reads};
 ghost use Rattle.mesh_doc.specs.Fields.{required_in};
 ghost use Rattle.mesh_doc.specs.Kinds.{text_in};
 ghost use Rattle.policy_json.specs.TargetRefs.{has_no_entry, is_empty_list};
-ghost use Rattle.kept_back.specs.Fields.{unless_kept, no_entries};
+ghost use Rattle.kept_back.specs.Fields.{kept_unless, no_entries};
 
 use mesh_doc::{DocError, Form, Reason, Spot, field, optional};
 use serde_json::Value;
@@ -36,7 +36,7 @@ struct EmptyList;
 impl Form for EmptyList {
     type Out = ();
 
-    ghost faults = { unless_kept is_empty_list };
+    ghost faults = { kept_unless is_empty_list };
 
     ghost value = { λ _. tt };
 

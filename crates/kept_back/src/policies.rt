@@ -1,19 +1,24 @@
-// AuthorizationPolicies: every action but ALLOW, sources, conditions, and what only a request has.
-ghost use Rattle.std.specs.Prelude.{◌≡◌};
+// AuthorizationPolicies: every action but ALLOW and DENY, and what only a request has.
+ghost use Rattle.std.specs.Prelude.{◌≡◌, not};
 ghost use Rattle.serde_json.specs.View.{view};
 ghost use Rattle.mesh_doc.specs.Faults.{Reads};
-ghost use Rattle.kept_back.specs.Policies.{action_kept, is_allow_word, operation_kept, policy_kept, rule_kept, spec_kept, to_kept};
+ghost use Rattle.kept_back.specs.Fields.{kept_unless};
+ghost use Rattle.kept_back.specs.Policies.{action_kept, is_decided_word, policy_kept, rule_kept, spec_kept};
+ghost use Rattle.kept_back.specs.Policies.{condition_kept, from_kept, is_request_key, operation_kept, source_kept, to_kept};
 
 use crate::fields::no_entries;
 use crate::items::SPEC;
 use mesh_doc::{DocError, Form, Reason, Spot, listed, optional, or_empty};
 use mesh_policy::MOST_ENTRIES;
+use mesh_text::is_prefix;
 use serde_json::Value;
 use std::alloc::Global;
 
 const ACTION: &str = "action";
 
 const ALLOW: &str = "ALLOW";
+
+const DENY: &str = "DENY";
 
 const RULES: &str = "rules";
 
@@ -22,6 +27,12 @@ const FROM: &str = "from";
 const TO: &str = "to";
 
 const WHEN: &str = "when";
+
+const SOURCE: &str = "source";
+
+const REQUEST_PRINCIPALS: &str = "requestPrincipals";
+
+const NOT_REQUEST_PRINCIPALS: &str = "notRequestPrincipals";
 
 const OPERATION: &str = "operation";
 
@@ -36,6 +47,11 @@ const NOT_METHODS: &str = "notMethods";
 const PATHS: &str = "paths";
 
 const NOT_PATHS: &str = "notPaths";
+
+const KEY: &str = "key";
+
+// what the keys begin with that only a request has
+const REQUEST: &str = "request.";
 
 /// Tells the first place of the policy `v` at `at` that no listener is built for.
 #[tactic(auto, unfolding(crate::specs::Policies::policy_kept))]
@@ -73,19 +89,19 @@ impl Form for ActionWord {
 
     #[tactic(auto, unfolding(crate::specs::Policies::action_kept))]
     fn read(alloc: Global, v: &Value, at: &Spot) -> Result<(), DocError> {
-        if is_allow_word(v) {
+        if is_decided_word(v) {
             return Ok(());
         }
         Err(at.refuse(alloc, Reason::UnknownField))
     }
 }
 
-#[tactic(auto, unfolding(crate::specs::Policies::is_allow_word, mesh_doc::specs::Kinds::text_in))]
-fn is_allow_word(v: &Value) -> bool
-    ensures { result ≡ is_allow_word (view v.now) }
+#[tactic(auto, unfolding(crate::specs::Policies::is_decided_word, mesh_doc::specs::Kinds::text_in))]
+fn is_decided_word(v: &Value) -> bool
+    ensures { result ≡ is_decided_word (view v.now) }
 {
     match v {
-        Value::String(word) => word.as_str() == ALLOW,
+        Value::String(word) => word.as_str() == ALLOW || word.as_str() == DENY,
         _ => false,
     }
 }
@@ -101,11 +117,47 @@ impl Form for RuleEntry {
 
     #[tactic(auto, unfolding(crate::specs::Policies::rule_kept))]
     fn read(alloc: Global, v: &Value, at: &Spot) -> Result<(), DocError> {
-        no_entries(alloc, v, FROM, at)?;
+        listed::<FromEntry>(alloc, v, FROM, MOST_ENTRIES, at)?;
         listed::<ToEntry>(alloc, v, TO, MOST_ENTRIES, at)?;
-        no_entries(alloc, v, WHEN, at)
+        listed::<ConditionEntry>(alloc, v, WHEN, MOST_ENTRIES, at)?;
+        Ok(())
     }
 }
+
+// ---- sources
+
+struct FromEntry;
+
+impl Form for FromEntry {
+    type Out = ();
+
+    ghost faults = { from_kept };
+
+    ghost value = { λ _. tt };
+
+    #[tactic(auto, unfolding(crate::specs::Policies::from_kept))]
+    fn read(alloc: Global, v: &Value, at: &Spot) -> Result<(), DocError> {
+        or_empty::<Source>(alloc, v, SOURCE, at)
+    }
+}
+
+struct Source;
+
+impl Form for Source {
+    type Out = ();
+
+    ghost faults = { source_kept };
+
+    ghost value = { λ _. tt };
+
+    #[tactic(auto, unfolding(crate::specs::Policies::source_kept))]
+    fn read(alloc: Global, v: &Value, at: &Spot) -> Result<(), DocError> {
+        no_entries(alloc, v, REQUEST_PRINCIPALS, at)?;
+        no_entries(alloc, v, NOT_REQUEST_PRINCIPALS, at)
+    }
+}
+
+// ---- operations
 
 struct ToEntry;
 
@@ -139,5 +191,50 @@ impl Form for Operation {
         no_entries(alloc, v, NOT_METHODS, at)?;
         no_entries(alloc, v, PATHS, at)?;
         no_entries(alloc, v, NOT_PATHS, at)
+    }
+}
+
+// ---- conditions
+
+struct ConditionEntry;
+
+impl Form for ConditionEntry {
+    type Out = ();
+
+    ghost faults = { condition_kept };
+
+    ghost value = { λ _. tt };
+
+    #[tactic(auto, unfolding(crate::specs::Policies::condition_kept))]
+    fn read(alloc: Global, v: &Value, at: &Spot) -> Result<(), DocError> {
+        optional::<KeyWord>(alloc, v, KEY, at)?;
+        Ok(())
+    }
+}
+
+struct KeyWord;
+
+impl Form for KeyWord {
+    type Out = ();
+
+    ghost faults = { kept_unless (λ d. not (is_request_key d)) };
+
+    ghost value = { λ _. tt };
+
+    fn read(alloc: Global, v: &Value, at: &Spot) -> Result<(), DocError> {
+        if is_request_key(v) {
+            return Err(at.refuse(alloc, Reason::UnknownField));
+        }
+        Ok(())
+    }
+}
+
+#[tactic(auto, unfolding(crate::specs::Policies::is_request_key, mesh_doc::specs::Kinds::text_in))]
+fn is_request_key(v: &Value) -> bool
+    ensures { result ≡ is_request_key (view v.now) }
+{
+    match v {
+        Value::String(key) => is_prefix(REQUEST, key.as_str()),
+        _ => false,
     }
 }

@@ -17,7 +17,8 @@ use Rattle.mesh_cli.proofs.Options.{some-same}
 by-reason : (t : List ℕ) (told reason : SelectFault) → Some (reason_text told) ≡ Some t → Some reason ≡ Some told → t ≡ reason_text reason
 by-reason t told reason written same = sym (some-same _ _ written) ∙ ap reason_text (sym (some-same _ _ same))
 
-pub told-text : (e : SelectError) (t : List ℕ) (reason : SelectFault) → option_map reason_text (reason_of e) ≡ Some t → Tells e (Some reason)
+pub told-text : (e : SelectError) (t : List ℕ) (reason : SelectFault) → option_map reason_text (reason_of e) ≡ Some t
+    → Tells e (Some reason)
     → t ≡ reason_text reason
 told-text error.NoWorkload t reason h k = by-reason t _ reason h k
 told-text (error.PortConflict port first second) t reason h k = by-reason t _ reason h k

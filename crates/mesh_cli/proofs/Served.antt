@@ -1,5 +1,6 @@
 -- An input that a command answers with a text is not refused, and that text is the one.
-use Rattle.std.proofs.Common.{◌≡◌, ℕ, ◌<◌, ◌≤◌, Bool, true, false, cond, List, length, nat_lt, Option, Some, None, IfSome, refl, sym, subst, ◌∙◌, ap, arith}
+use Rattle.std.proofs.Common.{◌≡◌, ℕ, ◌<◌, ◌≤◌, Bool, true, false, cond, List, length, nat_lt, Option, Some, None, IfSome}
+use Rattle.std.proofs.Common.{refl, sym, subst, ◌∙◌, ap, arith}
 use Rattle.std.proofs.lemmas.Bool.{ltb-true}
 use Rattle.std.specs.Option.{option_map}
 use Rattle.mesh_edge.specs.Source.{KnownSource}
@@ -7,7 +8,8 @@ use Rattle.manifest_json.specs.Document.{bundle_in}
 use Rattle.mesh_policy.specs.Workload.{workload_of}
 use Rattle.mesh_cli.specs.declared.words.Command.{Command}
 use Rattle.mesh_cli.specs.declared.words.Command.TheVariants.{Translate}
-use Rattle.mesh_cli.specs.Answer.{too_long, answer_of, answer_to, answer_unless, answer_with, answer_for, translation, workload_named, document_of, max_input}
+use Rattle.mesh_cli.specs.Answer.{too_long, answer_of, answer_to, answer_unless, answer_with, answer_for, translation}
+use Rattle.mesh_cli.specs.Answer.{workload_named, document_of, max_input}
 use Rattle.mesh_cli.specs.Headline.{Accepted}
 use Rattle.mesh_cli.specs.PodName.{PodName}
 use Rattle.mesh_cli.specs.Program.{Answers, IsAccepted, IsAnswered}

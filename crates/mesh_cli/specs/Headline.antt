@@ -7,6 +7,7 @@ use Rattle.mesh_policy.specs.declared.pod.Pod.{Pod}
 use Rattle.mesh_policy.specs.declared.case.Case.{Case}
 use Rattle.mesh_policy.specs.SelectFault.{pod_named, select_fault}
 use Rattle.mesh_policy.specs.Verdicts.{verdict_of}
+use Rattle.mesh_policy.specs.WellFormedCase.{WellFormedCase}
 use Rattle.mesh_policy.specs.Workload.{Workload, workload_of}
 use Rattle.envoy_types.specs.declared.chains.Listener.{Listener}
 use Rattle.envoy_types.specs.ListenerForms.{Spells}
@@ -17,7 +18,7 @@ use Rattle.mesh_cli.specs.declared.words.Command.TheVariants.{Translate}
 use Rattle.mesh_cli.specs.Answer.{document_of}
 use Rattle.mesh_cli.specs.PodName.{PodName}
 
--- The text is JSON, its value spells one listener and no other, and that listener gives every connection
+-- The text is JSON, its value spells one listener and no other, and that listener gives every well-formed connection
 -- the verdict of the policies: the outcome and the audit mark.
 pub record Enforces (workload : Workload) (text : List ℕ) : Type 0 where
   pub value : Data
@@ -25,7 +26,7 @@ pub record Enforces (workload : Workload) (text : List ℕ) : Type 0 where
   pub listener : Listener
   pub spells : Spells value listener
   pub only : (other : Listener) → Spells value other → other ≡ listener
-  pub verdicts : (case : Case) → envoy_verdict listener case ≡ verdict_of workload case
+  pub verdicts : (case : Case) → WellFormedCase case workload.jwt_rules → envoy_verdict listener case ≡ verdict_of workload case
 
 -- The input spells manifests without a fault, which a listener is built for so far, one of their Pods has that name, and
 -- selection has no reason against it. The manifests are `bundle_in` of the document.

@@ -4,7 +4,7 @@
     python3 bench/judge.py MESH PROGRAM [--runs N]
 
 MESH is the built `mesh`, which translates a Pod with 16 TCP ports and an ALLOW policy of 512 rules, each with four ports
-that no connection goes to: about 9 MB. PROGRAM is the built `examples_of_calls`, of which one line is run, thrice with other cases:
+that no connection goes to: about 9 MB. PROGRAM is the built `examples_of_verdicts`, of which one line is run, thrice with other cases:
 
   parse   `judge LISTENER, CASE` with a port that is none: the line is parsed, refused, and printed
   read    a connection with TLS that shows no peer: the listener is read, a chain is chosen, and no filter runs

@@ -1,7 +1,6 @@
 // Addresses and blocks of addresses.
-use crate::call::Call;
-use crate::shown::{address, block, none, truth};
-use crate::stop::Stop;
+use crate::shown::{address, block};
+use call_lines::{Call, Stop, none, truth};
 use mesh_net::{Cidr, IpAddr, parse_cidr, parse_ip};
 use std::alloc::Global;
 

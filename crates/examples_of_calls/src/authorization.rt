@@ -1,6 +1,6 @@
 // An AuthorizationPolicy in short: its name, its labels, its action with the provider, and its rules.
 use crate::shown::{push_blocks, push_labels, push_ports, push_texts};
-use crate::stop::Stop;
+use call_lines::Stop;
 use mesh_policy::{
     Action, AuthorizationPolicy, BlockKey, Condition, OperationSpec, Rule, SourceSpec, TextKey,
 };

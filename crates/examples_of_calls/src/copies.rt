@@ -1,9 +1,8 @@
 // Copies of policies that are read from a `spec`.
 use crate::authorization;
-use crate::call::Call;
 use crate::requests::push_rule;
 use crate::specs_of_policies::{authorization_of, request_of};
-use crate::stop::Stop;
+use call_lines::{Call, Stop};
 use mesh_policy::JwtRule;
 use serde_json::Value;
 use std::alloc::Global;

@@ -1,8 +1,6 @@
 // Kinds of JSON values, fields, and lists.
-use crate::call::Call;
 use crate::forms::{Distinct, Numbers, Point, Token, read_point};
-use crate::shown::{none, quoted, refused};
-use crate::stop::Stop;
+use call_lines::{Call, Stop, none, quoted, refused};
 use mesh_doc::{
     AnyNumber, AnyText, DocError, Form, Place, Spot, Tested, entries, entries_in_turn, field, list,
     listed, listed_in_turn, listed_written, number, object, only_fields, optional,

@@ -1,7 +1,5 @@
 // Texts, lists and boxed values of their own.
-use crate::call::{Call, numbers_of};
-use crate::shown::quoted;
-use crate::stop::Stop;
+use call_lines::{Call, Stop, numbers_of, quoted};
 use mesh_text::{Boxed, List, Text};
 use std::alloc::Global;
 

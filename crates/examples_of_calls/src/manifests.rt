@@ -1,7 +1,5 @@
 // Manifests in short: each item by its name with what it says, the mesh, and the counts.
-use crate::call::Call;
-use crate::shown::refused;
-use crate::stop::Stop;
+use call_lines::{Call, Stop, refused};
 use manifest_json::read_bundle;
 use mesh_doc::{Place, Step};
 use mesh_policy::{

@@ -1,7 +1,5 @@
 // String forms, paths and path templates.
-use crate::call::Call;
-use crate::shown::{none, quoted, truth};
-use crate::stop::Stop;
+use call_lines::{Call, Stop, none, quoted, truth};
 use mesh_policy::{Pattern, Template, path_of};
 use mesh_text::Text;
 use std::alloc::Global;

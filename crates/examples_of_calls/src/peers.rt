@@ -1,6 +1,6 @@
 // A PeerAuthentication in short: its name and age, its labels, its mode, and the modes of its ports.
 use crate::shown::push_labels;
-use crate::stop::Stop;
+use call_lines::Stop;
 use mesh_policy::{Mode, PeerAuthentication};
 use std::alloc::Global;
 

@@ -1,7 +1,5 @@
 // Places in a document, and faults at them.
-use crate::call::{Call, items_of, text_of};
-use crate::shown::{quoted, refused};
-use crate::stop::Stop;
+use call_lines::{Call, Stop, items_of, quoted, refused, text_of};
 use mesh_doc::{DocError, Place, Reason, Spot, Step, missing, place_text, refuse};
 use mesh_text::{List, Text};
 use serde_json::Value;

@@ -1,7 +1,7 @@
 // A RequestAuthentication in short: its name, its labels, and of each rule the issuer, the audiences, the keys, the
 // places, and what goes on to the application.
 use crate::shown::push_labels;
-use crate::stop::Stop;
+use call_lines::Stop;
 use mesh_policy::{JwtRule, Keys, RequestAuthentication, TokenPlace};
 use std::alloc::Global;
 

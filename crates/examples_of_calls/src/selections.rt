@@ -1,9 +1,7 @@
 // The workload of a Pod in short, or why there is none.
 ghost use Rattle.mesh_policy.specs.AcceptedBundle.{AcceptedBundle};
 
-use crate::call::{Call, number_in, text_in};
-use crate::shown::refused;
-use crate::stop::Stop;
+use call_lines::{Call, Stop, joined, refused};
 use manifest_json::read_bundle;
 use mesh_doc::Place;
 use mesh_policy::{Action, AuthorizationPolicy, Bundle, Mode, Protocol};
@@ -13,38 +11,12 @@ use serde_json::Value;
 use std::alloc::Global;
 
 /// The workload of the Pod of the namespace and the name that the second and the third argument are. A document that is a
-/// list is a text in parts, each of which is a text, or one so many times.
+/// list is one in parts.
 pub fn answer(alloc: Global, call: &Call) -> Result<String, Stop> {
     match call.value(0)? {
         Value::Array(parts) => of_document(alloc, &joined(alloc, parts.as_slice())?, call),
         document => of_document(alloc, document, call),
     }
-}
-
-fn joined(alloc: Global, parts: &[Value]) -> Result<Value, Stop> {
-    let mut text = String::new(alloc);
-    for part in parts {
-        push_part(&mut text, part)?;
-    }
-    match Value::from_str(alloc, text.as_str()) {
-        Ok(document) => Ok(document),
-        Err(_) => Err(Stop::Arguments),
-    }
-}
-
-// `TEXT`, or `{"repeat": TEXT, "times": NUMBER}`.
-fn push_part(text: &mut String, part: &Value) -> Result<(), Stop> {
-    match part {
-        Value::String(piece) => push_times(text, piece.as_str(), 1),
-        _ => push_times(text, text_in(part, "repeat")?, number_in(part, "times", 0)?),
-    }
-}
-
-fn push_times(text: &mut String, piece: &str, times: u64) -> Result<(), Stop> {
-    for _ in 0..times {
-        text.push_str(piece)?;
-    }
-    Ok(())
 }
 
 fn of_document(alloc: Global, document: &Value, call: &Call) -> Result<String, Stop> {

@@ -1,6 +1,5 @@
 // Sinks that take all their bytes, and sinks that fail.
-use crate::call::{Call, is_in, number_in, numbers_in, text_in};
-use crate::stop::Stop;
+use call_lines::{Call, Stop, is_in, number_in, numbers_in, text_in};
 use mesh_edge::{CleanSink, MemorySink, Sink, StdSink, write_all};
 use serde_json::Value;
 use std::alloc::Global;

@@ -1,6 +1,5 @@
 // Sources that give all their bytes, and sources that fail.
-use crate::call::{Call, number_in, numbers_in, text_in};
-use crate::stop::Stop;
+use call_lines::{Call, Stop, number_in, numbers_in, text_in};
 use mesh_edge::{CleanSource, MemorySource, ReadError, Source, StdSource, read_all};
 use serde_json::Value;
 use std::alloc::Global;

@@ -1,8 +1,7 @@
 // Policies read from a `spec` at the place `$/spec`, and labels at the whole.
-use crate::call::Call;
-use crate::shown::{push_labels, refused};
-use crate::stop::Stop;
+use crate::shown::push_labels;
 use crate::{authorization, peers, requests};
+use call_lines::{Call, Stop, refused};
 use mesh_doc::{DocError, Place, Step};
 use mesh_policy::{AuthorizationPolicy, RequestAuthentication};
 use mesh_text::{List, Text};

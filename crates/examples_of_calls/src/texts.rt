@@ -1,7 +1,5 @@
 // Tests of texts.
-use crate::call::Call;
-use crate::shown::{none, truth};
-use crate::stop::Stop;
+use call_lines::{Call, Stop, none, truth};
 use mesh_text::{
     contains, contains_fold, decimal, eq_fold, is_dns_label, is_dns_subdomain, is_prefix,
     is_prefix_fold, is_suffix, is_suffix_fold, is_time, is_token,

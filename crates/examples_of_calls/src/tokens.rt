@@ -1,9 +1,7 @@
 // Tokens of requests, and the clusters of authorizers.
-use crate::call::{Call, items_of, number_in, text_in, text_of};
-use crate::shown::quoted;
-use crate::stop::Stop;
-use mesh_policy::{Header, Provider, Request, TokenPlace, cluster_of, find_token};
-use mesh_text::{List, Text};
+use call_lines::{Call, Stop, number_in, quoted, request_of, text_in};
+use mesh_policy::{Provider, TokenPlace, cluster_of, find_token};
+use mesh_text::Text;
 use serde_json::Value;
 use std::alloc::Global;
 
@@ -30,44 +28,6 @@ fn place_of(alloc: Global, v: &Value) -> Result<TokenPlace, Stop> {
     Ok(TokenPlace::Header {
         name: Text::of(alloc, text_in(v, "header")?)?,
         prefix: Text::of(alloc, text_in(v, "prefix")?)?,
-    })
-}
-
-/// `{"path": TEXT, "method": TEXT, "headers": [[NAME, VALUE], ..]}`; a GET, and without headers, where these are absent.
-pub fn request_of(alloc: Global, v: &Value) -> Result<Request, Stop> {
-    Ok(Request {
-        method: Text::of(alloc, method_in(v)?)?,
-        path: Text::of(alloc, text_in(v, "path")?)?,
-        authority: None,
-        headers: headers_in(alloc, v)?,
-    })
-}
-
-fn method_in(v: &Value) -> Result<&str, Stop> {
-    match v.get("method") {
-        None => Ok("GET"),
-        Some(method) => text_of(method),
-    }
-}
-
-fn headers_in(alloc: Global, v: &Value) -> Result<List<Header>, Stop> {
-    let mut headers = List::new(alloc);
-    let Some(listed) = v.get("headers") else {
-        return Ok(headers);
-    };
-    for pair in items_of(listed)? {
-        headers.push(header_of(alloc, pair)?)?;
-    }
-    Ok(headers)
-}
-
-fn header_of(alloc: Global, pair: &Value) -> Result<Header, Stop> {
-    let [name, value] = items_of(pair)? else {
-        return Err(Stop::Arguments);
-    };
-    Ok(Header {
-        name: Text::of(alloc, text_of(name)?)?,
-        value: Text::of(alloc, text_of(value)?)?,
     })
 }
 

@@ -1,5 +1,5 @@
 // Filters of role-based access control that have every form of permissions and principals.
-use crate::stop::Stop;
+use call_lines::Stop;
 use envoy_types::{
     HeaderMatch, HeaderTest, MatchKind, PermissionLeaf, PrincipalLeaf, Rbac, RbacAction,
     RbacPolicy, RbacRules, StringMatcher, ValueMatcher,

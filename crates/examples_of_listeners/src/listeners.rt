@@ -1,10 +1,8 @@
 // Listeners as JSON: one that has every form, two that have nothing but defaults, and those that are read.
-use crate::call::Call;
 use crate::listener_rules::{logged, network_rules, no_rules, request_rules, told};
 use crate::matchers::matcher;
-use crate::shown::refused;
-use crate::stop::Stop;
 use crate::token_filters::{claims_filter, plain_filter, whole_filter};
+use call_lines::{Call, Stop, joined, refused};
 use envoy_types::{
     AuthService, ChainBody, ChainMatch, ExtAuthz, FilterChain, HttpFilter, Listener, MatchKind,
     NetworkFilter, PermissionLeaf, StringMatcher, Transport,
@@ -18,12 +16,15 @@ use serde_json::Value;
 use std::alloc::Global;
 
 /// The listener that is written is one of three, by its name, and one that is read is shown as it is written, or its first fault
-/// is. The matcher is that of a pattern, as in `StringMatcher::of`, and the tree is
-/// that of a permission for all ports but the argument.
+/// is. Of one in parts is told whether it is written as the value that it was read from. The matcher is that of a pattern, as in
+/// `StringMatcher::of`, and the tree is that of a permission for all ports but the argument.
 pub fn answer(alloc: Global, call: &Call) -> Result<Option<String>, Stop> {
     match call.name {
         "to_value" => listener_value(alloc, call),
-        "from_value" => read(alloc, call.value(0)?),
+        "from_value" => match call.value(0)? {
+            Value::Array(parts) => read_parts(alloc, parts.as_slice()),
+            v => read(alloc, v),
+        },
         "string_to_value" => shown(alloc, &string_to_value(alloc, &matcher(alloc, call)?)?),
         "tree_to_value" => tree_value(alloc, call),
         _ => Ok(None),
@@ -34,6 +35,18 @@ fn read(alloc: Global, v: &Value) -> Result<Option<String>, Stop> {
     let whole: Place = List::new(alloc);
     match from_value(alloc, v, &whole) {
         Ok(listener) => shown(alloc, &to_value(alloc, &listener)?),
+        Err(error) => Ok(Some(refused(alloc, error)?)),
+    }
+}
+
+fn read_parts(alloc: Global, parts: &[Value]) -> Result<Option<String>, Stop> {
+    let v = joined(alloc, parts)?;
+    let whole: Place = List::new(alloc);
+    match from_value(alloc, &v, &whole) {
+        Ok(listener) => {
+            let is_equal = to_value(alloc, &listener)? == v;
+            Ok(Some(format!(in alloc; "equal {is_equal}")?))
+        }
         Err(error) => Ok(Some(refused(alloc, error)?)),
     }
 }

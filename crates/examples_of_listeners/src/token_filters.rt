@@ -3,7 +3,7 @@ ghost use Rattle.std.specs.Prelude.{◌≡◌, IfOk, IsTrue};
 ghost use Rattle.mesh_policy.specs.declared.jwt.TokenPlace.TheVariants as place;
 ghost use Rattle.envoy_types.specs.Order.{are_places};
 
-use crate::stop::Stop;
+use call_lines::Stop;
 use envoy_types::{JwtAuthn, JwtCheck, JwtProvider, Requirement};
 use mesh_policy::{JwtRule, Keys, TokenPlace};
 use mesh_text::{List, Memory, Text};

@@ -1,7 +1,5 @@
 // String matchers of listeners, and the leaves of their trees.
-use crate::call::{Call, text_of};
-use crate::shown::truth;
-use crate::stop::Stop;
+use call_lines::{Call, Stop, text_of, truth};
 use envoy_types::{MatchKind, PermissionLeaf, PrincipalLeaf, State, StringMatcher};
 use mesh_net::IpAddr;
 use mesh_policy::{Case, Pattern, Tls};

@@ -1,16 +1,12 @@
 // What listeners decide of cases: the verdict, the chain, and the policies that are hit.
-use crate::call::{Call, is_in, number_in, text_of, texts_of};
-use crate::shown::{none, refused};
-use crate::stop::Stop;
-use crate::tokens::request_of;
+use crate::cases::case_of;
+use call_lines::{Call, Stop, none, refused};
 use envoy_eval::{Hit, Hits, choose, effective, judge, trace};
 use envoy_types::{ChainBody, FilterChain, HttpFilter, Listener, NetworkFilter, RbacRules, State};
 use listener_json::from_value;
 use mesh_doc::Place;
-use mesh_net::IpAddr;
-use mesh_policy::{Case, Outcome, Request, Tls, Verdict};
-use mesh_text::{List, Text};
-use serde_json::Value;
+use mesh_policy::{Case, Outcome, Verdict};
+use mesh_text::List;
 use std::alloc::{AllocError, Global};
 
 /// The first argument is a listener, and the second one a case in short.
@@ -47,7 +43,8 @@ fn told(
 
 // ---- what is decided
 
-fn judged(alloc: Global, listener: &Listener, case: &Case) -> Result<String, AllocError> {
+/// The verdict, the chain, and of each stage that has a hit the filter and its policy.
+pub fn judged(alloc: Global, listener: &Listener, case: &Case) -> Result<String, AllocError> {
     let mut out = String::new(alloc);
     push_verdict(&mut out, judge(listener, case))?;
     push_chain(&mut out, listener, choose(listener, case))?;
@@ -149,54 +146,4 @@ fn known_in(chain: &FilterChain) -> State {
         peer_seen: chain.mutual_tls,
         verdict: None,
     }
-}
-
-// ---- the case
-
-fn case_of(alloc: Global, v: &Value) -> Result<Case, Stop> {
-    let Ok(port) = u16::try_from(number_in(v, "port", 0)?) else {
-        return Err(Stop::Arguments);
-    };
-    Ok(Case {
-        source: IpAddr::V4(0x0a000001),
-        remote: IpAddr::V4(0x0a000001),
-        destination: IpAddr::V4(0x0a000002),
-        port,
-        tls: tls_in(alloc, v)?,
-        request: request_in(alloc, v)?,
-        verdicts: List::new(alloc),
-        answers: List::new(alloc),
-    })
-}
-
-fn tls_in(alloc: Global, v: &Value) -> Result<Option<Tls>, Stop> {
-    if !is_in(v, "tls") {
-        return Ok(None);
-    }
-    Ok(Some(Tls {
-        peer: text_if(alloc, v, "peer")?,
-        sni: text_if(alloc, v, "sni")?,
-        alpn: texts_if(alloc, v, "alpn")?,
-    }))
-}
-
-fn text_if(alloc: Global, v: &Value, name: &str) -> Result<Option<Text>, Stop> {
-    match v.get(name) {
-        None => Ok(None),
-        Some(text) => Ok(Some(Text::of(alloc, text_of(text)?)?)),
-    }
-}
-
-fn texts_if(alloc: Global, v: &Value, name: &str) -> Result<List<Text>, Stop> {
-    match v.get(name) {
-        None => Ok(List::new(alloc)),
-        Some(list) => texts_of(alloc, list),
-    }
-}
-
-fn request_in(alloc: Global, v: &Value) -> Result<Option<Request>, Stop> {
-    if v.get("path").is_none() {
-        return Ok(None);
-    }
-    Ok(Some(request_of(alloc, v)?))
 }

@@ -1,10 +1,9 @@
 // Matcher trees, over leaves that hold for one number.
 ghost use Rattle.std.specs.Prelude.{◌≡◌, ◌<◌, ◌^◌, ◌∷◌, [], IfOk};
 ghost use Rattle.mesh_tree.specs.Size.{tree_count};
-ghost use Rattle.examples_of_calls.specs.Trees.{IsLeaf};
+ghost use Rattle.examples_of_listeners.specs.Trees.{IsLeaf};
 
-use crate::call::Call;
-use crate::stop::Stop;
+use call_lines::{Call, Stop};
 use mesh_text::{List, Memory};
 use mesh_tree::{Leaf, Tree};
 use std::alloc::Global;
@@ -17,7 +16,7 @@ pub struct Number {
 
 impl Leaf for Number {
     ghost use Rattle.std.specs.Prelude.{◌==◌};
-    ghost use Rattle.examples_of_calls.specs.Trees.{number_same};
+    ghost use Rattle.examples_of_listeners.specs.Trees.{number_same};
 
     type Scene = u64;
 

@@ -5,8 +5,8 @@ use Rattle.mesh_tree.specs.declared.tree.Node.TheVariants.{Leaf}
 use Rattle.mesh_tree.specs.declared.tree.Tree.{Tree}
 use Rattle.std.proofs.Common.{ap}
 use Rattle.std.proofs.lemmas.Bool.Decides.{Decides-eqb}
-use Rattle.examples_of_calls.specs.declared.trees.Number.{Number}
-use Rattle.examples_of_calls.specs.contracts.trees.NumberPartialEq.TheImpl.{ghosts}
+use Rattle.examples_of_listeners.specs.declared.trees.Number.{Number}
+use Rattle.examples_of_listeners.specs.contracts.trees.NumberPartialEq.TheImpl.{ghosts}
 
 -- equal leaves are the same
 pub number_same : (a b : Number) → ghosts.eq a b ≡ true → a ≡ b

@@ -10,8 +10,8 @@ use mesh_text::{List, Memory};
 use std::alloc::Global;
 
 impl<L: Drop> Tree<L> {
-    /// The tree that holds where all parts do. One part is itself the answer; else each part that is an And is
-    /// replaced in place by its entries, as they stand. Without memory the parts are dropped.
+    /// The tree that holds where all parts do. A single part is handed back as it is. Of several, the entries of
+    /// those that are Ands stand in their places, opened no further. Without memory the parts are dropped.
     pub fn and(alloc: Global, parts: List<Tree<L>>) -> Result<Tree<L>, Memory>
         requires { 0 < length parts }
         ensures shape { IfOk result (λ t. t ≡ and_of parts) }
@@ -21,8 +21,8 @@ impl<L: Drop> Tree<L> {
         and_tree(alloc, parts)
     }
 
-    /// The tree that holds where one of the parts does. One part is itself the answer; else each part that is
-    /// an Or is replaced in place by its entries, as they stand. Without memory the parts are dropped.
+    /// The tree that holds where one of the parts does. A single part is handed back as it is. Of several, the
+    /// entries of those that are Ors stand in their places, opened no further. Without memory the parts are dropped.
     pub fn or(alloc: Global, parts: List<Tree<L>>) -> Result<Tree<L>, Memory>
         requires { 0 < length parts }
         ensures shape { IfOk result (λ t. t ≡ or_of parts) }

@@ -1,5 +1,5 @@
--- Values that are accepted: words on lists. A value is accepted where its fields have the forms, ranges and limits that
--- manifests ask for. It is a test of the value, and speaks of no document.
+-- Lists of values that a reader of manifests may answer. What these words say of a value can be told without the document that
+-- it came from: how its texts are written, how large its numbers are, how long its lists.
 use Rattle.std.specs.Prelude.{◌≡◌, ℕ, ◌≤◌, Bool, false, ◌&&◌, All, AllPairs, IsTrue, List, length}
 use Rattle.std.specs.Str.{bytes_eq}
 use Rattle.mesh_policy.specs.declared.pod.Label.{Label}

@@ -1,5 +1,5 @@
 -- AuthorizationPolicies that are accepted (Istio reference, "Authorization Policy", "Authorization Policy Conditions").
-use Rattle.std.specs.Prelude.{ℕ, ◌+◌, ◌<◌, ◌≤◌, Bool, true, ◌&&◌, IsTrue, nat_le, List, [], ◌∷◌, length}
+use Rattle.std.specs.Prelude.{ℕ, ◌+◌, ◌<◌, Bool, true, ◌&&◌, IsTrue, nat_le, List, [], ◌∷◌, length}
 use Rattle.std.specs.List.{list_all}
 use Rattle.std.specs.Option.{ForSome}
 use Rattle.mesh_net.specs.declared.cidr.Cidr.{Cidr}

@@ -9,7 +9,7 @@ pub struct Request {
     pub path: Text,
     /// The host with its port, if one was sent.
     pub authority: Option<Text>,
-    /// Names compare without regard to ASCII case, and of two headers with one name the first counts.
+    /// As they were sent. Policies ask for a name in any case of its ASCII letters, and see the first header that has it.
     pub headers: List<Header>,
 }
 

@@ -142,15 +142,21 @@ module _ (fs : List Field) (apart : are_different (field_names fs) ≡ true) whe
       (required-means fs apart FILTER_ENABLED_METADATA.now enabled_key_in _ _ enabled (key-back rbac_name authz))
       (required-means fs apart FILTER_ENABLED_METADATA.now enabled_in _ _ enabled (enabled-back rbac_name authz h))
 
+-- the fields of either configuration, with those that stand behind the service
+abbrev config_fields : (type rbac_name : List ℕ) → ExtAuthz → List Field → List Field
+config_fields type rbac_name authz behind =
+    field TYPE.now (string type)
+    ∷ truth_field FAILURE_MODE_ALLOW.now authz.fail_open
+    ∷ field FILTER_ENABLED_METADATA.now (enabled_written rbac_name authz)
+    ∷ service_field authz.service
+    ∷ behind
+
+abbrev version_field : Field
+version_field = field TRANSPORT_API_VERSION.now (string API_VERSION.now)
+
 abbrev network_fields : ExtAuthz → List Field
 network_fields authz =
-    field TYPE.now (string NETWORK_AUTHZ_TYPE.now)
-    ∷ truth_field FAILURE_MODE_ALLOW.now authz.fail_open
-    ∷ field FILTER_ENABLED_METADATA.now (enabled_written NETWORK_RBAC_NAME.now authz)
-    ∷ service_field authz.service
-    ∷ field STAT_PREFIX.now (string TCP_PREFIX.now)
-    ∷ field TRANSPORT_API_VERSION.now (string API_VERSION.now)
-    ∷ []
+    config_fields NETWORK_AUTHZ_TYPE.now NETWORK_RBAC_NAME.now authz (field STAT_PREFIX.now (string TCP_PREFIX.now) ∷ version_field ∷ [])
 
 network-config-back : (service : AuthService) (rest : ExtAuthz) → is_grpc service ≡ true → string_is_printable rest.enabled ≡ true
     → let authz : ExtAuthz = record rest { service = service } in
@@ -180,13 +186,7 @@ network-authz-back authz h =
     (network-config-back authz.service authz (and_parts _ _ h).0 (and_parts _ _ h).1)
 
 abbrev http_fields : ExtAuthz → List Field
-http_fields authz =
-    field TYPE.now (string HTTP_AUTHZ_TYPE.now)
-    ∷ truth_field FAILURE_MODE_ALLOW.now authz.fail_open
-    ∷ field FILTER_ENABLED_METADATA.now (enabled_written HTTP_RBAC_NAME.now authz)
-    ∷ service_field authz.service
-    ∷ field TRANSPORT_API_VERSION.now (string API_VERSION.now)
-    ∷ []
+http_fields authz = config_fields HTTP_AUTHZ_TYPE.now HTTP_RBAC_NAME.now authz (version_field ∷ [])
 
 -- the names of its fields
 abbrev http_names : List (List ℕ)

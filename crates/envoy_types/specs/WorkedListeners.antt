@@ -1,15 +1,13 @@
 -- Small listeners and cases, of which laws say what the meaning makes.
 use Rattle.std.specs.Prelude.{ℕ, Bool, true, false, List, [], ◌∷◌, codes, Option, Some, None}
-use Rattle.mesh_net.specs.declared.address.IpAddr.TheVariants.{V4}
 use Rattle.mesh_policy.specs.declared.case.Case.{Case}
-use Rattle.mesh_policy.specs.declared.case.Tls.{Tls}
 use Rattle.mesh_policy.specs.declared.jwt.Keys.TheVariants.{Inline}
 use Rattle.mesh_policy.specs.declared.jwt.TokenPlace.TheVariants.{Header as InHeader}
 use Rattle.mesh_policy.specs.declared.request.Header.{Header as HeaderField}
 use Rattle.mesh_policy.specs.declared.request.Request.{Request}
-use Rattle.mesh_policy.specs.declared.token_verdict.Answer.{Answer}
 use Rattle.mesh_policy.specs.declared.token_verdict.Claim.TheVariants.{Word}
 use Rattle.mesh_policy.specs.declared.token_verdict.TokenVerdict.{TokenVerdict}
+pub use Rattle.mesh_policy.specs.WorkedPolicies.{connection, plain}
 use Rattle.mesh_tree.specs.Tree.{tree_of}
 use Rattle.mesh_tree.specs.declared.tree.Node.TheVariants as node
 use Rattle.mesh_tree.specs.declared.tree.Tree.{Tree}
@@ -42,23 +40,6 @@ use Rattle.envoy_types.specs.declared.strings.MatchKind.TheVariants as kind
 use Rattle.envoy_types.specs.declared.strings.StringMatcher.{StringMatcher}
 
 -- ---- cases
-
--- a connection to a port from 10.0.0.1 to 10.0.0.9
-abbrev pub connection : ℕ → Option Tls → Option Request → List TokenVerdict → List Answer → Case
-connection port tls request verdicts answers = record {
-  source = V4 167772161;
-  remote = V4 167772161;
-  destination = V4 167772169;
-  port = port;
-  tls = tls;
-  request = request;
-  verdicts = verdicts;
-  answers = answers;
-}
-
--- plain text without a request
-abbrev pub plain : ℕ → Case
-plain port = connection port None None [] []
 
 -- TLS that offers these names, by a peer or without one
 abbrev pub offering : Option (List ℕ) → List (List ℕ) → Case

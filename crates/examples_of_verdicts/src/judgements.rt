@@ -3,7 +3,7 @@ use crate::cases::case_of;
 use call_lines::{Call, Stop, none, refused};
 use envoy_eval::{Hit, Hits, choose, effective, judge, trace};
 use envoy_types::{ChainBody, FilterChain, HttpFilter, Listener, NetworkFilter, RbacRules, State};
-use listener_json::from_value;
+use listener_reader::from_value;
 use mesh_doc::Place;
 use mesh_policy::{Case, Outcome, Verdict};
 use mesh_text::List;

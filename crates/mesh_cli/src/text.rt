@@ -6,7 +6,7 @@ ghost use Rattle.mesh_cli.specs.Text as told;
 
 use chain_build::build;
 use envoy_types::written_spells;
-use listener_json::to_value;
+use listener_writer::to_value;
 use mesh_select::Workload;
 use mesh_text::Memory;
 use std::alloc::Global;

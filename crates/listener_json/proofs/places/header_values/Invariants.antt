@@ -1,9 +1,0 @@
--- The values are those of the headers among the first places.
-use Rattle.std.proofs.Common.{◌≡◌, map, take}
-use Rattle.std.specs.List.{filter_map}
-use Rattle.serde_json.specs.View.{view}
-use Rattle.envoy_types.specs.ProviderForms as form
-use Rattle.listener_json.proofs.places.header_values.Given as goal
-
-abbrev pub invariant-loop-place : goal.invariant-loop-place
-invariant-loop-place l = map view l.values.items ≡ map form.from_header_written (filter_map form.header_of (take l.place-index l.places))

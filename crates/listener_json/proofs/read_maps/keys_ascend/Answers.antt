@@ -1,6 +1,0 @@
--- As the iterator of a map promises.
-use Rattle.listener_json.proofs.Rising.{sorted-rises}
-use Rattle.listener_json.proofs.read_maps.keys_ascend.Goals as goal
-
-pub returns : goal.returns
-returns c = sorted-rises c.args.fields.now.entries c.iter.ensures.ordered

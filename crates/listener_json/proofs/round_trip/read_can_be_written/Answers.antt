@@ -1,6 +1,0 @@
--- By the lemma on what a listener without fault means.
-use Rattle.listener_json.proofs.ListenerPrintable.{spelled-printable}
-use Rattle.listener_json.proofs.round_trip.read_can_be_written.Goals as goal
-
-pub returns : goal.returns
-returns c = spelled-printable

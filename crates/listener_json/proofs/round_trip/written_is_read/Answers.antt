@@ -1,6 +1,0 @@
--- By the law on what a written listener spells.
-use Rattle.listener_json.proofs.ReadBack.{written-is-read}
-use Rattle.listener_json.proofs.round_trip.written_is_read.Goals as goal
-
-pub returns : goal.returns
-returns c = written-is-read

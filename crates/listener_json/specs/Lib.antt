@@ -1,7 +1,0 @@
-pub mod Keys
-pub mod ReadBack
-pub mod RisingNames
-pub mod Targets
-pub mod Tokens
-pub use Rattle.envoy_types.specs.ListenerForms
-pub use Rattle.serde_json.specs.View

@@ -1,0 +1,9 @@
+-- The parameter of one more place is there, if it is one.
+use Rattle.serde_json.specs.Data.{string}
+use Rattle.envoy_types.specs.ProviderForms.{param_of}
+use Rattle.listener_writer.proofs.Entries.{one-more}
+use Rattle.listener_writer.proofs.places.param_values.Goals as goal
+
+pub loop-place-preserved : goal.loop-place-preserved
+loop-place-preserved c = one-more param_of string c.args.places.now c.loop-place.place-index c.place-item.result _ _
+    c.loop-place-test.true c.place-item.is c.loop-place.invariant c.in_ok-push_param.ensures

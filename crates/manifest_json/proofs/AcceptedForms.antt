@@ -20,13 +20,12 @@ use Rattle.mesh_policy.specs.declared.provider.Provider.{Provider}
 use Rattle.mesh_policy.specs.declared.service.Target.TheVariants as target
 use Rattle.mesh_text.specs.Dns.{is_label, is_subdomain}
 use Rattle.mesh_text.specs.Time.{is_time}
-use Rattle.mesh_text.specs.Token.{is_token}
-use Rattle.policy_json.proofs.AcceptedSpecs.{labels_ensures}
+use Rattle.policy_json.proofs.AcceptedSpecs.{labels_ensures, token_ensures}
 use Rattle.manifest_json.proofs.Fresh.{AllPairs-from_Pairs, Remembers, Seen, bytes_eq_comm, listed_pairs, no_pairs, seen_last, seen_still}
 use Rattle.mesh_doc.proofs.NoFault as no_fault
 use Rattle.mesh_doc.proofs.NoFault.{Ensures, IsListOf, any_object, earlier, later, passed, strict_object}
 use Rattle.manifest_json.specs.Flat.{joined, kept}
-use Rattle.manifest_json.specs.MeshConfig.{after_provider, authorizer_faults, authorizer_in, form_in, form_of, forms_faults, is_new_name, mesh_config_faults, mesh_config_in, mesh_item_faults, mesh_item_in, name_in_turn_faults, provider_faults, provider_in, single_form_faults, token_faults}
+use Rattle.manifest_json.specs.MeshConfig.{after_provider, authorizer_faults, authorizer_in, form_in, form_of, forms_faults, is_new_name, mesh_config_faults, mesh_config_in, mesh_item_faults, mesh_item_in, name_in_turn_faults, provider_faults, provider_in, single_form_faults}
 use Rattle.manifest_json.specs.Metadata.{authorization_metadata_faults, is_timestamp, name_faults, names_faults, names_in, namespace_faults, peer_metadata_faults, peer_metadata_in, plain_metadata_faults, pod_metadata_faults, pod_metadata_in, time_faults}
 use Rattle.manifest_json.specs.Pod.{container_faults, container_in, is_passed, named_port_faults, named_port_in, pod_faults, pod_in, pod_spec_faults, pod_spec_in}
 use Rattle.manifest_json.specs.Ports.{has_other_protocol, port_faults, unless_passed}
@@ -271,9 +270,6 @@ form_holds (Some http) (Some grpc) at h = cc
 form_ensures : Ensures forms_faults form_in AcceptedAuthorizer
 unfolding forms_faults form_in
 form_ensures = record { holds = λ d at h. form_holds (field_in ENVOY_EXT_AUTHZ_HTTP.now d) (field_in ENVOY_EXT_AUTHZ_GRPC.now d) at h }
-
-token_ensures : Ensures token_faults text_in (λ t. IsTrue (is_token t))
-token_ensures = no_fault.tested is_token reason.BadName
 
 provider_ensures : (seen : List (List ℕ)) → Ensures (provider_faults seen) provider_in AcceptedProvider
 unfolding provider_faults provider_in name_in_turn_faults

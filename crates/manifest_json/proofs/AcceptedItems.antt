@@ -1,20 +1,17 @@
 -- Items without fault are accepted, and so is the bundle of items of which no two are alike.
-use Rattle.std.proofs.Common.{◌≡◌, ℕ, ◌≤◌, ◌&&◌, Bool, true, false, cond, List, [], ◌∷◌, Option, Some, None, Result, Ok, Err, length, filter_map, get_or, All, IsTrue, refl, sym, ap₂, ◌∙◌, subst, arith, lit<}
+use Rattle.std.proofs.Common.{◌≡◌, ℕ, ◌≤◌, ◌&&◌, Bool, true, false, cond, List, [], ◌∷◌, Option, Some, None, length, filter_map, get_or, All, IsTrue, ap₂, ◌∙◌, arith, lit<}
 use Rattle.std.proofs.lemmas.Bool.{not-true}
 use Rattle.std.proofs.lemmas.List.Elements.{All-cons, All-head, All-nil, All-tail}
 use Rattle.std.specs.List.{AllPairs}
-use Rattle.std.specs.Result.{IfOk}
 use Rattle.serde_json.specs.Data.{Data}
-use Rattle.mesh_doc.specs.Faults.{Reads, first, none}
-use Rattle.mesh_doc.specs.Fields.{field_in, found_faults, optional}
+use Rattle.mesh_doc.specs.Faults.{Check, first, none}
+use Rattle.mesh_doc.specs.Fields.{field_in, found_faults, optional, or_empty_in, required_in}
 use Rattle.mesh_doc.specs.Lists.{found_list, list_in, listed_in}
 use Rattle.mesh_doc.specs.Places.{Steps, at_key}
-use Rattle.mesh_doc.specs.declared.fault.DocError.{DocError}
 use Rattle.mesh_policy.specs.AcceptedBundle.{AcceptedBundle, AcceptedMesh, AcceptedPeer, AcceptedPod, AcceptedService, item_count}
 use Rattle.mesh_policy.specs.AcceptedLists.{same_names}
 use Rattle.mesh_policy.specs.AcceptedRules.{AcceptedPolicy}
 use Rattle.mesh_policy.specs.AcceptedTokens.{AcceptedRequest}
-use Rattle.mesh_policy.specs.declared.bundle.Bundle.{Bundle}
 use Rattle.mesh_policy.specs.declared.bundle.MeshConfig.{MeshConfig}
 use Rattle.mesh_policy.specs.declared.jwt.RequestAuthentication.{RequestAuthentication}
 use Rattle.mesh_policy.specs.declared.peer.PeerAuthentication.{PeerAuthentication}
@@ -25,17 +22,12 @@ use Rattle.manifest_json.proofs.AcceptedForms.{authorization_metadata_ensures, d
 use Rattle.manifest_json.proofs.Fresh.{Pairs, Remembers, Seen, all_selected, bytes_eq_comm, list_pairs, pairs_selected, seen_last, seen_still}
 use Rattle.mesh_doc.proofs.NoFault as no_fault
 use Rattle.mesh_doc.proofs.NoFault.{Ensures, IsListOf, any_object, earlier, later, passed}
-use Rattle.policy_json.proofs.AcceptedSpecs.{peer_answered, policy_answered, request_answered}
-use Rattle.policy_json.specs.Authorization.{authorization_faults, authorization_in}
-use Rattle.policy_json.specs.Peer.{peer_faults, peer_in}
-use Rattle.policy_json.specs.Request.{request_faults, request_in}
-use Rattle.mesh_text.specs.Dns.{is_label, is_subdomain}
-use Rattle.mesh_text.specs.Time.{is_time}
-use Rattle.std.specs.Option.{ForSome}
+use Rattle.policy_json.proofs.AcceptedSpecs.{peer_ensures, policy_ensures, request_ensures}
 use Rattle.manifest_json.specs.Document.{bundle_faults, bundle_in, is_list, items_faults, items_in}
 use Rattle.manifest_json.specs.Gather.{as_authorization, as_mesh, as_peer, as_pod, as_request, as_service, bundle_of, default_mesh, last_mesh}
 use Rattle.manifest_json.specs.Items.{after_item, is_new, item_faults, item_in, key_of, kind_faults, kind_in, kind_value, known_faults, known_value, next_faults, seen_with}
 use Rattle.manifest_json.specs.Key.{same_key}
+use Rattle.manifest_json.specs.Metadata.{item_with}
 use Rattle.manifest_json.specs.PolicyItems.{authorization_item_faults, authorization_item_in, peer_item_faults, peer_item_in, request_item_faults, request_item_in}
 use Rattle.manifest_json.specs.declared.document.TheConstants.{ITEMS}
 use Rattle.manifest_json.specs.declared.items.Item.{Item}
@@ -47,48 +39,30 @@ use Rattle.manifest_json.specs.declared.key.Kind.TheVariants as kind
 
 -- ---- policies
 
-policy_ensures : (name namespace : List ℕ) → IsTrue (is_subdomain name) → IsTrue (is_label namespace)
-    → Ensures authorization_faults (authorization_in name namespace) AcceptedPolicy
-policy_ensures name namespace named placed = record {
-  holds = λ d at h. policy_answered (Ok (authorization_in name namespace d)) name namespace d at (h, refl) named placed;
-}
-
-peer_ensures : (name namespace : List ℕ) (age : Option (List ℕ)) → IsTrue (is_subdomain name)
-    → IsTrue (is_label namespace) → ForSome age (λ time. IsTrue (is_time time))
-    → Ensures peer_faults (peer_in name namespace age) AcceptedPeer
-peer_ensures name namespace age named placed aged = record {
-  holds = λ d at h. peer_answered (Ok (peer_in name namespace age d)) name namespace age d at (h, refl) named placed aged;
-}
-
-request_ensures : (name namespace : List ℕ) → IsTrue (is_subdomain name) → IsTrue (is_label namespace)
-    → Ensures request_faults (request_in name namespace) AcceptedRequest
-request_ensures name namespace named placed = record {
-  holds = λ d at h. request_answered (Ok (request_in name namespace d)) name namespace d at (h, refl) named placed;
-}
+-- metadata, and a `spec` that is accepted behind them
+item_ensures_by : {A B : Type 0} {metadata spec : Check} {named : Data → A} {P : A → Type 0} {value : A → Data → B} {Q : B → Type 0}
+    → Ensures metadata named P → ((a : A) → P a → Ensures spec (value a) Q)
+    → Ensures (item_with metadata spec) (λ d. or_empty_in SPEC.now (value (required_in METADATA.now named d)) d) Q
+item_ensures_by m s = any_object (record {
+  holds = λ d at h.
+      let named = (no_fault.required METADATA.now m).holds d at (earlier _ _ h) in
+      (no_fault.or_empty SPEC.now (s _ named)).holds d at (later _ _ h);
+})
 
 authorization_item_ensures : Ensures authorization_item_faults authorization_item_in AcceptedPolicy
 unfolding authorization_item_faults authorization_item_in
-authorization_item_ensures = any_object (record {
-  holds = λ d at h.
-      let names = (no_fault.required METADATA.now authorization_metadata_ensures).holds d at (earlier _ _ h) in
-      (no_fault.or_empty SPEC.now (policy_ensures _ _ names.name names.namespace)).holds d at (later _ _ h);
-})
+authorization_item_ensures = item_ensures_by authorization_metadata_ensures (λ names h.
+    policy_ensures names.name names.namespace h.name h.namespace)
 
 peer_item_ensures : Ensures peer_item_faults peer_item_in AcceptedPeer
 unfolding peer_item_faults peer_item_in
-peer_item_ensures = any_object (record {
-  holds = λ d at h.
-      let metadata = (no_fault.required METADATA.now peer_metadata_ensures).holds d at (earlier _ _ h) in
-      (no_fault.or_empty SPEC.now (peer_ensures _ _ _ metadata.names.name metadata.names.namespace metadata.age)).holds d at (later _ _ h);
-})
+peer_item_ensures = item_ensures_by peer_metadata_ensures (λ metadata h.
+    peer_ensures metadata.names.name metadata.names.namespace metadata.age h.names.name h.names.namespace h.age)
 
 request_item_ensures : Ensures request_item_faults request_item_in AcceptedRequest
 unfolding request_item_faults request_item_in
-request_item_ensures = any_object (record {
-  holds = λ d at h.
-      let names = (no_fault.required METADATA.now plain_metadata_ensures).holds d at (earlier _ _ h) in
-      (no_fault.or_empty SPEC.now (request_ensures _ _ names.name names.namespace)).holds d at (later _ _ h);
-})
+request_item_ensures = item_ensures_by plain_metadata_ensures (λ names h.
+    request_ensures names.name names.namespace h.name h.namespace)
 
 -- ---- one item
 
@@ -171,59 +145,24 @@ record AcceptedAll (items : List Item) : Type 0 where
   apart : Pairs Apart items
   few : length items ≤ 4096
 
+-- an item that is selected as of a kind is of that kind
 is_pod : (x : Item) (p : Pod) → as_pod x ≡ Some p → x ≡ item.Pod p
-is_pod (item.Pod q) p h = cc
-is_pod (item.Service q) p h = cc
-is_pod (item.Authorization q) p h = cc
-is_pod (item.Peer q) p h = cc
-is_pod (item.Request q) p h = cc
-is_pod (item.Mesh q) p h = cc
-is_pod item.Other p h = cc
+is_pod x p h = grind (arith, h)
 
 is_service : (x : Item) (p : Service) → as_service x ≡ Some p → x ≡ item.Service p
-is_service (item.Pod q) p h = cc
-is_service (item.Service q) p h = cc
-is_service (item.Authorization q) p h = cc
-is_service (item.Peer q) p h = cc
-is_service (item.Request q) p h = cc
-is_service (item.Mesh q) p h = cc
-is_service item.Other p h = cc
+is_service x p h = grind (arith, h)
 
 is_authorization : (x : Item) (p : AuthorizationPolicy) → as_authorization x ≡ Some p → x ≡ item.Authorization p
-is_authorization (item.Pod q) p h = cc
-is_authorization (item.Service q) p h = cc
-is_authorization (item.Authorization q) p h = cc
-is_authorization (item.Peer q) p h = cc
-is_authorization (item.Request q) p h = cc
-is_authorization (item.Mesh q) p h = cc
-is_authorization item.Other p h = cc
+is_authorization x p h = grind (arith, h)
 
 is_peer : (x : Item) (p : PeerAuthentication) → as_peer x ≡ Some p → x ≡ item.Peer p
-is_peer (item.Pod q) p h = cc
-is_peer (item.Service q) p h = cc
-is_peer (item.Authorization q) p h = cc
-is_peer (item.Peer q) p h = cc
-is_peer (item.Request q) p h = cc
-is_peer (item.Mesh q) p h = cc
-is_peer item.Other p h = cc
+is_peer x p h = grind (arith, h)
 
 is_request : (x : Item) (p : RequestAuthentication) → as_request x ≡ Some p → x ≡ item.Request p
-is_request (item.Pod q) p h = cc
-is_request (item.Service q) p h = cc
-is_request (item.Authorization q) p h = cc
-is_request (item.Peer q) p h = cc
-is_request (item.Request q) p h = cc
-is_request (item.Mesh q) p h = cc
-is_request item.Other p h = cc
+is_request x p h = grind (arith, h)
 
 is_mesh : (x : Item) (p : MeshConfig) → as_mesh x ≡ Some p → x ≡ item.Mesh p
-is_mesh (item.Pod q) p h = cc
-is_mesh (item.Service q) p h = cc
-is_mesh (item.Authorization q) p h = cc
-is_mesh (item.Peer q) p h = cc
-is_mesh (item.Request q) p h = cc
-is_mesh (item.Mesh q) p h = cc
-is_mesh item.Other p h = cc
+is_mesh x p h = grind (arith, h)
 
 -- names that differ from those behind them, where they are compared the other way round
 named_once : {A : Type 0} (namespace name : A → List ℕ) (xs : List A)
@@ -335,12 +274,7 @@ items_hold : (b : Bool) (d : Data) (at : Steps)
 items_hold true d at h = listed_ensures.holds d at h
 items_hold false d at h = alone_accepted (item_in d) (item_ensures.holds d at h)
 
-bundle_ensures : Ensures bundle_faults bundle_in AcceptedBundle
+-- what is read without fault is accepted
+pub bundle_ensures : Ensures bundle_faults bundle_in AcceptedBundle
 unfolding bundle_faults bundle_in items_in
 bundle_ensures = record { holds = λ d at h. bundle_accepted _ (items_hold (is_list d) d at (later _ _ h)) }
-
--- what is read without fault is accepted
-pub read_accepted : (r : Result Bundle DocError) (d : Data) (at : Steps) → Reads r (bundle_faults d at) (bundle_in d)
-    → IfOk r AcceptedBundle
-read_accepted (Ok b) d at h = subst AcceptedBundle (sym h.1) (bundle_ensures.holds d at h.0)
-read_accepted (Err e) d at h = tt

@@ -9,12 +9,11 @@ use Rattle.mesh_doc.specs.Fields.{field_in, optional, optional_in, or_empty, or_
 use Rattle.mesh_doc.specs.Kinds.{number_in, text_in, truth_faults, truth_in}
 use Rattle.mesh_doc.specs.Lists.{listed_in}
 use Rattle.mesh_doc.specs.Turns.{listed_in_turn}
-use Rattle.mesh_doc.specs.Tested.{tested}
 use Rattle.mesh_doc.specs.declared.reason.Reason.TheVariants as reason
 use Rattle.mesh_policy.specs.declared.bundle.MeshConfig.{MeshConfig}
 use Rattle.mesh_policy.specs.declared.names.TheConstants.{ROOT_NAMESPACE}
 use Rattle.mesh_policy.specs.declared.provider.Provider.{Provider}
-use Rattle.mesh_text.specs.Token.{is_token}
+use Rattle.policy_json.specs.Texts.{token_faults}
 use Rattle.manifest_json.specs.Metadata.{name_faults, namespace_faults}
 use Rattle.manifest_json.specs.Ports.{port_faults}
 use Rattle.manifest_json.specs.declared.mesh_config.Authorizer.{Authorizer}
@@ -40,10 +39,6 @@ authorizer_in d = record {
 }
 
 -- ---- an authorizer by its name
-
--- a token (RFC 9110, section 5.6.2)
-abbrev pub token_faults : Check
-token_faults = tested is_token reason.BadName
 
 -- no earlier authorizer has the name
 abbrev pub is_new_name : List (List ℕ) → Data → Bool

@@ -11,6 +11,7 @@ use Rattle.mesh_policy.specs.declared.names.TheConstants.{DEFAULT_NAMESPACE}
 use Rattle.mesh_text.specs.Dns.{is_label, is_subdomain}
 use Rattle.mesh_text.specs.Time.{is_time}
 use Rattle.policy_json.specs.Labels.{labels_faults, labels_in}
+use Rattle.manifest_json.specs.declared.items.TheConstants.{METADATA, SPEC}
 use Rattle.manifest_json.specs.declared.metadata.Names.{Names}
 use Rattle.manifest_json.specs.declared.metadata.PeerMetadata.{PeerMetadata}
 use Rattle.manifest_json.specs.declared.metadata.PodMetadata.{PodMetadata}
@@ -81,3 +82,9 @@ annotations_faults = open_object (optional DRY_RUN.now dry_run_faults)
 
 unfoldable pub authorization_metadata_faults : Check
 authorization_metadata_faults = open_object (names_faults ⨾ or_empty ANNOTATIONS.now annotations_faults)
+
+-- ---- the item around it
+
+-- the metadata, and then a `spec`; one that is not there is the empty object
+abbrev pub item_with : Check → Check → Check
+item_with metadata spec = open_object (required METADATA.now metadata ⨾ or_empty SPEC.now spec)

@@ -2,13 +2,13 @@
 use Rattle.std.specs.Prelude.{Bool, ◌||◌, List, Option, Some, None, is_none, if◌then◌else◌}
 use Rattle.serde_json.specs.Data.{Data}
 use Rattle.mesh_doc.specs.Faults.{Check, ◌⨾◌}
-use Rattle.mesh_doc.specs.Fields.{field_in, open_object, or_empty, or_empty_in, required, required_in}
+use Rattle.mesh_doc.specs.Fields.{field_in, open_object, or_empty_in, required, required_in}
 use Rattle.mesh_doc.specs.Kinds.{number_in, text_faults, text_in}
 use Rattle.mesh_doc.specs.Lists.{listed, listed_in}
 use Rattle.mesh_policy.specs.declared.pod.NamedPort.{NamedPort}
 use Rattle.mesh_policy.specs.declared.pod.Pod.{Pod}
 use Rattle.manifest_json.specs.Flat.{joined, kept}
-use Rattle.manifest_json.specs.Metadata.{pod_metadata_faults, pod_metadata_in}
+use Rattle.manifest_json.specs.Metadata.{item_with, pod_metadata_faults, pod_metadata_in}
 use Rattle.manifest_json.specs.Ports.{has_other_protocol, port_faults, unless_passed}
 use Rattle.manifest_json.specs.declared.items.TheConstants.{METADATA, SPEC}
 use Rattle.manifest_json.specs.declared.metadata.TheConstants.{NAME}
@@ -53,9 +53,7 @@ pod_spec_in d = joined (listed_in CONTAINERS.now container_in d)
 
 -- its metadata and its `spec`
 unfoldable pub pod_faults : Check
-pod_faults = open_object
-    (required METADATA.now pod_metadata_faults
-    ⨾ or_empty SPEC.now pod_spec_faults)
+pod_faults = item_with pod_metadata_faults pod_spec_faults
 
 unfoldable pub pod_in : Data → Pod
 pod_in d = let metadata = required_in METADATA.now pod_metadata_in d in record {

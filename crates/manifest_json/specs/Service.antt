@@ -12,7 +12,7 @@ use Rattle.mesh_policy.specs.declared.service.Target.{Target}
 use Rattle.mesh_policy.specs.declared.service.Target.TheVariants as target
 use Rattle.policy_json.specs.Labels.{labels_faults, labels_in}
 use Rattle.manifest_json.specs.Flat.{kept}
-use Rattle.manifest_json.specs.Metadata.{names_in, plain_metadata_faults}
+use Rattle.manifest_json.specs.Metadata.{item_with, names_in, plain_metadata_faults}
 use Rattle.manifest_json.specs.Ports.{has_other_protocol, port_faults, unless_passed}
 use Rattle.manifest_json.specs.declared.items.TheConstants.{METADATA, SPEC}
 use Rattle.manifest_json.specs.declared.metadata.TheConstants.{NAME}
@@ -63,9 +63,7 @@ service_spec_in d = record {
 
 -- its metadata and its `spec`
 unfoldable pub service_faults : Check
-service_faults = open_object
-    (required METADATA.now plain_metadata_faults
-    ⨾ or_empty SPEC.now service_spec_faults)
+service_faults = item_with plain_metadata_faults service_spec_faults
 
 unfoldable pub service_in : Data → Service
 service_in d =

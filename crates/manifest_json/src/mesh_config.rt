@@ -4,8 +4,6 @@ ghost use Rattle.serde_json.specs.View.{view};
 ghost use Rattle.mesh_doc.specs.Faults.{Reads};
 ghost use Rattle.mesh_doc.specs.Fields.{required_in};
 ghost use Rattle.mesh_doc.specs.Kinds.{text_in};
-ghost use Rattle.mesh_doc.specs.declared.reason.Reason.TheVariants as reasons;
-ghost use Rattle.mesh_text.specs.Token as token;
 ghost use Rattle.manifest_json.specs.MeshConfig as mesh;
 ghost use Rattle.manifest_json.specs.declared.metadata.TheConstants.{NAME};
 
@@ -14,11 +12,12 @@ use crate::metadata::{NAME, Name, Namespace};
 use crate::ports::{PORT, PortNumber};
 use crate::seen::Seen;
 use mesh_doc::{
-    AnyTruth, DocError, Form, InTurn, Reason, Spot, Tested, TextTest, field, listed_in_turn,
-    optional, or_empty, required,
+    AnyTruth, DocError, Form, InTurn, Reason, Spot, Tested, field, listed_in_turn, optional,
+    or_empty, required,
 };
 use mesh_policy::{MOST_ENTRIES, MeshConfig, Provider, ROOT_NAMESPACE};
-use mesh_text::{Text, is_token};
+use mesh_text::Text;
+use policy_json::IsToken;
 use serde_json::Value;
 use std::alloc::Global;
 
@@ -124,23 +123,6 @@ fn read_name(alloc: Global, seen: &mut Seen<Text>, v: &Value, at: &Spot) -> Resu
         return Err(Spot::key(at, NAME).refuse(alloc, Reason::DuplicateItem));
     }
     Ok(name)
-}
-
-// A token (RFC 9110, section 5.6.2), else BadName.
-struct IsToken;
-
-impl TextTest for IsToken {
-    ghost passes = { token.is_token };
-
-    ghost reason = { reasons.BadName };
-
-    fn passes(text: &str) -> bool {
-        is_token(text)
-    }
-
-    fn reason() -> Reason {
-        Reason::BadName
-    }
 }
 
 #[tactic(auto, unfolding(crate::specs::MeshConfig::forms_faults, crate::specs::MeshConfig::form_in))]

@@ -20,14 +20,16 @@ use Rattle.mesh_policy.specs.AcceptedRules.{AcceptedCondition, AcceptedOperation
 use Rattle.mesh_policy.specs.Values.{has_few_slashes, is_block, is_path, is_path_value, is_port, is_request_principal, is_short}
 use Rattle.policy_json.proofs.AcceptedKeys.{IsKey, key_ensures}
 use Rattle.policy_json.proofs.PortTexts.{port_there}
+use Rattle.policy_json.specs.BothListed.{both_listed, both_listed_in}
 use Rattle.policy_json.specs.ConditionKeys.{key_in}
-use Rattle.policy_json.specs.Conditions.{both_faults, condition_faults, condition_in, has_entries, values_faults, values_in}
+use Rattle.policy_json.specs.Conditions.{both_faults, both_in, condition_faults, condition_in, has_entries, values_faults, values_in}
 use Rattle.policy_json.specs.Operations.{operation_faults, operation_in}
 use Rattle.policy_json.specs.Ports.{port_of}
 use Rattle.policy_json.specs.Rules.{from_faults, from_in, rule_faults, rule_in, to_faults, to_in}
 use Rattle.policy_json.specs.Sources.{source_faults, source_in}
 use Rattle.policy_json.specs.Texts.{short_text_faults}
 use Rattle.policy_json.specs.Values.{any_block, block_faults, block_in, path_faults, port_value_faults, port_value_in, request_principal_faults}
+use Rattle.policy_json.specs.declared.both_listed.ValueLists.{ValueLists}
 use Rattle.policy_json.specs.declared.condition_keys.ConditionKey.{ConditionKey}
 use Rattle.policy_json.specs.declared.condition_keys.ConditionKey.TheVariants as key
 use Rattle.policy_json.specs.declared.conditions.TheConstants.{KEY, NOT_VALUES, VALUES}
@@ -38,12 +40,29 @@ use Rattle.policy_json.specs.declared.sources.TheConstants.{NOT_PRINCIPALS, NOT_
 use Rattle.policy_json.specs.declared.sources.TheConstants.{NOT_REQUEST_PRINCIPALS, PRINCIPALS, REMOTE_IP_BLOCKS}
 use Rattle.policy_json.specs.declared.sources.TheConstants.{REQUEST_PRINCIPALS}
 
+-- ---- lists
+
 -- a list of a manifest
 pub entries : {A : Type 0} {f : Check} {value : Data → A} {P : A → Type 0} (name : List ℕ) → Ensures f value P
     → Ensures (listed name 2048 f) (listed_in name value) (AcceptedList P)
 entries name e = record {
   holds = λ d at h. let each =
       (no_fault.listed name 2048 e).holds d at h in record { few = each.few; each = each.each };
+}
+
+-- both lists
+record AcceptedLists {A : Type 0} (P : A → Type 0) (lists : ValueLists A) : Type 0 where
+  values : AcceptedList P lists.values
+  not_values : AcceptedList P lists.not_values
+
+both_entries : {A : Type 0} {f : Check} {value : Data → A} {P : A → Type 0} (name not_name : List ℕ) → Ensures f value P
+    → Ensures (both_listed name not_name f) (both_listed_in name not_name value) (AcceptedLists P)
+unfolding both_listed
+both_entries name not_name e = record {
+  holds = λ d at h. record {
+    values = (entries name e).holds d at (earlier _ _ h);
+    not_values = (entries not_name e).holds d at (later _ _ h);
+  };
 }
 
 -- ---- values
@@ -86,27 +105,22 @@ source_ensures : Ensures source_faults source_in AcceptedSource
 unfolding source_faults source_in
 source_ensures = strict_object _ (record {
   holds = λ d at h.
-      let lists = (entries PRINCIPALS.now short_ensures
-      ⨾⨾ entries NOT_PRINCIPALS.now short_ensures
-      ⨾⨾ entries REQUEST_PRINCIPALS.now principal_ensures
-      ⨾⨾ entries NOT_REQUEST_PRINCIPALS.now principal_ensures
-      ⨾⨾ entries NAMESPACES.now short_ensures
-      ⨾⨾ entries NOT_NAMESPACES.now short_ensures
-      ⨾⨾ entries IP_BLOCKS.now block_ensures
-      ⨾⨾ entries NOT_IP_BLOCKS.now block_ensures
-      ⨾⨾ entries REMOTE_IP_BLOCKS.now block_ensures
-      ⨾⨾ entries NOT_REMOTE_IP_BLOCKS.now block_ensures).holds d at h in
+      let lists = (both_entries PRINCIPALS.now NOT_PRINCIPALS.now short_ensures
+      ⨾⨾ both_entries REQUEST_PRINCIPALS.now NOT_REQUEST_PRINCIPALS.now principal_ensures
+      ⨾⨾ both_entries NAMESPACES.now NOT_NAMESPACES.now short_ensures
+      ⨾⨾ both_entries IP_BLOCKS.now NOT_IP_BLOCKS.now block_ensures
+      ⨾⨾ both_entries REMOTE_IP_BLOCKS.now NOT_REMOTE_IP_BLOCKS.now block_ensures).holds d at h in
       record {
-        principals = lists.0;
-        not_principals = lists.1.0;
-        request_principals = lists.1.1.0;
-        not_request_principals = lists.1.1.1.0;
-        namespaces = lists.1.1.1.1.0;
-        not_namespaces = lists.1.1.1.1.1.0;
-        ip_blocks = lists.1.1.1.1.1.1.0;
-        not_ip_blocks = lists.1.1.1.1.1.1.1.0;
-        remote_ip_blocks = lists.1.1.1.1.1.1.1.1.0;
-        not_remote_ip_blocks = lists.1.1.1.1.1.1.1.1.1;
+        principals = lists.0.values;
+        not_principals = lists.0.not_values;
+        request_principals = lists.1.0.values;
+        not_request_principals = lists.1.0.not_values;
+        namespaces = lists.1.1.0.values;
+        not_namespaces = lists.1.1.0.not_values;
+        ip_blocks = lists.1.1.1.0.values;
+        not_ip_blocks = lists.1.1.1.0.not_values;
+        remote_ip_blocks = lists.1.1.1.1.values;
+        not_remote_ip_blocks = lists.1.1.1.1.not_values;
       };
 })
 
@@ -114,23 +128,19 @@ operation_ensures : Ensures operation_faults operation_in AcceptedOperation
 unfolding operation_faults operation_in
 operation_ensures = strict_object _ (record {
   holds = λ d at h.
-      let lists = (entries HOSTS.now short_ensures
-      ⨾⨾ entries NOT_HOSTS.now short_ensures
-      ⨾⨾ entries PORTS.now port_ensures
-      ⨾⨾ entries NOT_PORTS.now port_ensures
-      ⨾⨾ entries METHODS.now short_ensures
-      ⨾⨾ entries NOT_METHODS.now short_ensures
-      ⨾⨾ entries PATHS.now path_ensures
-      ⨾⨾ entries NOT_PATHS.now path_ensures).holds d at h in
+      let lists = (both_entries HOSTS.now NOT_HOSTS.now short_ensures
+      ⨾⨾ both_entries PORTS.now NOT_PORTS.now port_ensures
+      ⨾⨾ both_entries METHODS.now NOT_METHODS.now short_ensures
+      ⨾⨾ both_entries PATHS.now NOT_PATHS.now path_ensures).holds d at h in
       record {
-        hosts = lists.0;
-        not_hosts = lists.1.0;
-        ports = lists.1.1.0;
-        not_ports = lists.1.1.1.0;
-        methods = lists.1.1.1.1.0;
-        not_methods = lists.1.1.1.1.1.0;
-        paths = lists.1.1.1.1.1.1.0;
-        not_paths = lists.1.1.1.1.1.1.1;
+        hosts = lists.0.values;
+        not_hosts = lists.0.not_values;
+        ports = lists.1.0.values;
+        not_ports = lists.1.0.not_values;
+        methods = lists.1.1.0.values;
+        not_methods = lists.1.1.0.not_values;
+        paths = lists.1.1.1.values;
+        not_paths = lists.1.1.1.not_values;
       };
 })
 
@@ -145,17 +155,15 @@ some_entry m n h = some_of (and_cases (m == 0) (n == 0) (not-true _ h))
 
 -- both lists of a condition
 record AcceptedBoth {A : Type 0} (value : Data → A) (P : A → Type 0) (d : Data) : Type 0 where
-  values : AcceptedList P (listed_in VALUES.now value d)
-  not_values : AcceptedList P (listed_in NOT_VALUES.now value d)
+  lists : AcceptedLists P (both_in value d)
   written : 0 < length (listed_in VALUES.now value d) + length (listed_in NOT_VALUES.now value d)
 
 both_accepted : {A : Type 0} {f : Check} {value : Data → A} {P : A → Type 0} → Ensures f value P → (d : Data) (at : Steps)
     → first (both_faults f value d at) ≡ None → AcceptedBoth value P d
 unfolding both_faults
 both_accepted {value = value} e d at h = record {
-  values = (entries VALUES.now e).holds d at (earlier _ _ h);
-  not_values = (entries NOT_VALUES.now e).holds d at (earlier _ _ (later _ _ h));
-  written = some_entry _ _ (passed (has_entries value d) _ at (later _ _ (later _ _ h)));
+  lists = (both_entries VALUES.now NOT_VALUES.now e).holds d at (earlier _ _ h);
+  written = some_entry _ _ (passed (has_entries value d) _ at (later _ _ h));
 }
 
 values_accepted : (k : ConditionKey) → IsKey k → (d : Data) (at : Steps) → first (values_faults k d at) ≡ None
@@ -164,16 +172,16 @@ values_accepted (key.Words word) is d at h =
     let both = both_accepted short_ensures d at h in
     let form : (xs : List (List ℕ)) → AcceptedList (λ t. IsTrue (is_short t)) xs → AcceptedList (λ t. IsTrue (is_value_of word t)) xs
     = λ xs each. subst (λ (test : List ℕ → Bool). AcceptedList (λ t. IsTrue (test t)) xs) (sym is.values) each in
-    record { key = is.form; values = form _ both.values; not_values = form _ both.not_values; written = both.written }
+    record { key = is.form; values = form _ both.lists.values; not_values = form _ both.lists.not_values; written = both.written }
 values_accepted key.Principals is d at h =
     let both = both_accepted principal_ensures d at h in
-    record { key = refl; values = both.values; not_values = both.not_values; written = both.written }
+    record { key = refl; values = both.lists.values; not_values = both.lists.not_values; written = both.written }
 values_accepted (key.Blocks address) is d at h =
     let both = both_accepted block_ensures d at h in
-    record { values = both.values; not_values = both.not_values; written = both.written }
+    record { values = both.lists.values; not_values = both.lists.not_values; written = both.written }
 values_accepted key.Ports is d at h =
     let both = both_accepted port_ensures d at h in
-    record { values = both.values; not_values = both.not_values; written = both.written }
+    record { values = both.lists.values; not_values = both.lists.not_values; written = both.written }
 
 condition_ensures : Ensures condition_faults condition_in AcceptedCondition
 unfolding condition_faults condition_in

@@ -1,29 +1,22 @@
 -- What the reader of a `spec` without fault answers is accepted, where the name and the namespace are.
-use Rattle.std.proofs.Common.{◌≡◌, ℕ, false, List, [], refl, sym, ap, ◌∙◌, Option, Some}
-use Rattle.std.proofs.Common.{is_some, IsTrue, All, Result, Ok, Err, IfOk, subst, arith}
+use Rattle.std.proofs.Common.{◌≡◌, ℕ, List, [], refl, sym, ap, ◌∙◌, Option, Some}
+use Rattle.std.proofs.Common.{is_some, IsTrue, All, arith}
 use Rattle.std.proofs.lemmas.Bool.Decides.{Decides-eqb}
 use Rattle.std.proofs.lemmas.List.Elements.{All-nil}
 use Rattle.std.proofs.lemmas.Slice.Eq.{bytes_eq-Decides}
 use Rattle.std.specs.Bool.{⊤}
 use Rattle.std.specs.Option.{ForSome}
-use Rattle.serde_json.specs.Data.{Data}
 use Rattle.mesh_doc.proofs.EachOnce.{map_each_once}
 use Rattle.mesh_doc.proofs.NoFault as no_fault
 use Rattle.mesh_doc.proofs.NoFault.{Ensures, ◌⨾⨾◌, anything, earlier, later, passed, strict_object}
-use Rattle.mesh_doc.specs.Faults.{Check, Reads}
 use Rattle.mesh_doc.specs.Fields.{optional, optional_in}
-use Rattle.mesh_doc.specs.Places.{Steps}
-use Rattle.mesh_doc.specs.declared.fault.DocError.{DocError}
+use Rattle.mesh_doc.specs.Kinds.{text_in}
 use Rattle.mesh_doc.specs.declared.reason.Reason.TheVariants as reason
 use Rattle.mesh_policy.specs.AcceptedBundle.{AcceptedPeer, same_port}
 use Rattle.mesh_policy.specs.AcceptedLists.{AcceptedLabels, EachOnce, same_key}
 use Rattle.mesh_policy.specs.AcceptedRules.{AcceptedPolicy}
 use Rattle.mesh_policy.specs.AcceptedTokens.{AcceptedRequest}
 use Rattle.mesh_policy.specs.Values.{belongs, is_port}
-use Rattle.mesh_policy.specs.declared.jwt.RequestAuthentication.{RequestAuthentication}
-use Rattle.mesh_policy.specs.declared.peer.PeerAuthentication.{PeerAuthentication}
-use Rattle.mesh_policy.specs.declared.pod.Label.{Label}
-use Rattle.mesh_policy.specs.declared.policy.AuthorizationPolicy.{AuthorizationPolicy}
 use Rattle.mesh_text.specs.Dns.{is_label, is_subdomain}
 use Rattle.mesh_text.specs.Time.{is_time}
 use Rattle.mesh_text.specs.Token.{is_token}
@@ -32,21 +25,16 @@ use Rattle.policy_json.proofs.AcceptedTokens.{jwt_rule_ensures}
 use Rattle.policy_json.proofs.PortTexts.{port_there, text_of_port}
 use Rattle.policy_json.specs.Authorization.{action_faults, action_in, action_or_allow, authorization_faults}
 use Rattle.policy_json.specs.Authorization.{authorization_in, provider_faults, provider_in}
-use Rattle.policy_json.specs.Labels.{label_faults, label_in, labels_faults, labels_in, selector_faults, selector_in}
+use Rattle.policy_json.specs.Labels.{label_in, labels_faults, labels_in, selector_faults, selector_in}
 use Rattle.policy_json.specs.Peer.{peer_faults, peer_in, port_faults, port_in, ports_faults, ports_in}
 use Rattle.policy_json.specs.Ports.{port_of}
 use Rattle.policy_json.specs.Request.{request_faults, request_in}
 use Rattle.policy_json.specs.TargetRefs.{targets_faults}
+use Rattle.policy_json.specs.Texts.{token_faults}
 use Rattle.policy_json.specs.declared.authorization.TheConstants.{ACTION, NAME, PROVIDER, RULES}
 use Rattle.policy_json.specs.declared.labels.TheConstants.{MATCH_LABELS, SELECTOR}
 use Rattle.policy_json.specs.declared.peer.TheConstants.{PORT_LEVEL_MTLS}
 use Rattle.policy_json.specs.declared.request.TheConstants.{JWT_RULES}
-
--- what a reader answers has the property of values without fault
-answered : {A : Type 0} {f : Check} {value : Data → A} {P : A → Type 0} → Ensures f value P
-    → (r : Result A DocError) (d : Data) (at : Steps) → Reads r (f d at) (value d) → IfOk r P
-answered {P = P} e (Ok a) d at reads = subst P (sym reads.1) (e.holds d at reads.0)
-answered e (Err error) d at reads = tt
 
 -- ---- labels
 
@@ -55,10 +43,6 @@ pub labels_ensures : Ensures labels_faults labels_in AcceptedLabels
 unfolding label_in labels_faults labels_in
 labels_ensures = map_each_once {Of = λ key label. label.key ≡ key} same_key (λ key. record { holds = λ d at h. refl })
     (λ key other a b p q same. sym p ∙ (bytes_eq-Decides a.key b.key).0 same ∙ q)
-
-pub labels_answered : (r : Result (List Label) DocError) (d : Data) (at : Steps) → Reads r (labels_faults d at) (labels_in d)
-    → IfOk r AcceptedLabels
-labels_answered = answered labels_ensures
 
 -- no label is twice in none
 no_labels : AcceptedLabels []
@@ -76,14 +60,18 @@ any_targets = anything
 
 -- ---- AuthorizationPolicy
 
+-- the name of a provider
+pub token_ensures : Ensures token_faults text_in (λ t. IsTrue (is_token t))
+token_ensures = no_fault.tested is_token reason.BadName
+
 provider_ensures : Ensures provider_faults provider_in (λ t. IsTrue (is_token t))
 unfolding provider_faults provider_in
-provider_ensures = strict_object _ (no_fault.required NAME.now (no_fault.tested is_token reason.BadName))
+provider_ensures = strict_object _ (no_fault.required NAME.now token_ensures)
 
 any_action : Ensures (optional ACTION.now action_faults) (optional_in ACTION.now action_in) (λ _. ⊤)
 any_action = anything
 
-policy_ensures : (name namespace : List ℕ) → IsTrue (is_subdomain name) → IsTrue (is_label namespace)
+pub policy_ensures : (name namespace : List ℕ) → IsTrue (is_subdomain name) → IsTrue (is_label namespace)
     → Ensures authorization_faults (authorization_in name namespace) AcceptedPolicy
 unfolding authorization_faults authorization_in
 policy_ensures name namespace named placed = strict_object _ (record {
@@ -104,11 +92,6 @@ policy_ensures name namespace named placed = strict_object _ (record {
         rules = parts.1.1.1.1.0;
       };
 })
-
-pub policy_answered : (r : Result AuthorizationPolicy DocError) (name namespace : List ℕ) (d : Data) (at : Steps)
-    → Reads r (authorization_faults d at) (authorization_in name namespace d)
-    → IsTrue (is_subdomain name) → IsTrue (is_label namespace) → IfOk r AcceptedPolicy
-policy_answered r name namespace d at reads named placed = answered (policy_ensures name namespace named placed) r d at reads
 
 -- ---- PeerAuthentication
 
@@ -133,7 +116,7 @@ each_port_once = map_each_once {Of = λ key entry. port_of key ≡ Some entry.po
 no_ports : EachOnce same_port []
 no_ports = λ i j d below inside. absurd (omega arith)
 
-peer_ensures : (name namespace : List ℕ) (age : Option (List ℕ)) → IsTrue (is_subdomain name) → IsTrue (is_label namespace)
+pub peer_ensures : (name namespace : List ℕ) (age : Option (List ℕ)) → IsTrue (is_subdomain name) → IsTrue (is_label namespace)
     → ForSome age (λ time. IsTrue (is_time time))
     → Ensures peer_faults (peer_in name namespace age) AcceptedPeer
 unfolding peer_faults peer_in
@@ -148,15 +131,9 @@ peer_ensures name namespace age named placed aged = strict_object _ (record {
   };
 })
 
-pub peer_answered : (r : Result PeerAuthentication DocError) (name namespace : List ℕ) (age : Option (List ℕ)) (d : Data)
-    (at : Steps) → Reads r (peer_faults d at) (peer_in name namespace age d)
-    → IsTrue (is_subdomain name) → IsTrue (is_label namespace) → ForSome age (λ time. IsTrue (is_time time)) → IfOk r AcceptedPeer
-peer_answered r name namespace age d at reads named placed aged = answered
-    (peer_ensures name namespace age named placed aged) r d at reads
-
 -- ---- RequestAuthentication
 
-request_ensures : (name namespace : List ℕ) → IsTrue (is_subdomain name) → IsTrue (is_label namespace)
+pub request_ensures : (name namespace : List ℕ) → IsTrue (is_subdomain name) → IsTrue (is_label namespace)
     → Ensures request_faults (request_in name namespace) AcceptedRequest
 unfolding request_faults request_in
 request_ensures name namespace named placed = strict_object _ (record {
@@ -164,8 +141,3 @@ request_ensures name namespace named placed = strict_object _ (record {
       let parts = (no_fault.optional_or SELECTOR.now [] no_labels selector_ensures ⨾⨾ any_targets ⨾⨾ entries JWT_RULES.now jwt_rule_ensures).holds d at h in
       record { name = named; namespace = placed; labels = parts.0; rules = parts.1.1 };
 })
-
-pub request_answered : (r : Result RequestAuthentication DocError) (name namespace : List ℕ) (d : Data) (at : Steps)
-    → Reads r (request_faults d at) (request_in name namespace d)
-    → IsTrue (is_subdomain name) → IsTrue (is_label namespace) → IfOk r AcceptedRequest
-request_answered r name namespace d at reads named placed = answered (request_ensures name namespace named placed) r d at reads

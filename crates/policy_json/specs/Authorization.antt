@@ -6,16 +6,15 @@ use Rattle.mesh_doc.specs.Faults.{Check, ◌⨾◌, ◌▸◌, demands}
 use Rattle.mesh_doc.specs.Fields.{strict, required, required_in, optional, optional_in}
 use Rattle.mesh_doc.specs.Kinds.{text_faults, text_in}
 use Rattle.mesh_doc.specs.Lists.{listed, listed_in}
-use Rattle.mesh_doc.specs.Tested.{tested}
 use Rattle.mesh_doc.specs.declared.reason.Reason.TheVariants as reason
 use Rattle.mesh_policy.specs.Values.{belongs}
 use Rattle.mesh_policy.specs.declared.policy.Action.{Action}
 use Rattle.mesh_policy.specs.declared.policy.Action.TheVariants as action
 use Rattle.mesh_policy.specs.declared.policy.AuthorizationPolicy.{AuthorizationPolicy}
-use Rattle.mesh_text.specs.Token.{is_token}
 use Rattle.policy_json.specs.Labels.{selector_faults, selector_in}
 use Rattle.policy_json.specs.Rules.{rule_faults, rule_in}
 use Rattle.policy_json.specs.TargetRefs.{targets_faults}
+use Rattle.policy_json.specs.Texts.{token_faults}
 use Rattle.policy_json.specs.declared.authorization.TheConstants.{ACTION, PROVIDER, RULES, NAME, ALLOW, DENY, AUDIT, CUSTOM}
 use Rattle.policy_json.specs.declared.labels.TheConstants.{SELECTOR}
 use Rattle.policy_json.specs.declared.target_refs.TheConstants.{TARGET_REFS, TARGET_REF}
@@ -41,7 +40,7 @@ action_in d = unwrap_or (action_of (text_in d)) action.Allow
 
 -- ExtensionProvider: the authorizer by its name, a token
 unfoldable pub provider_faults : Check
-provider_faults = strict (NAME.now ∷ []) (required NAME.now (tested is_token reason.BadName))
+provider_faults = strict (NAME.now ∷ []) (required NAME.now token_faults)
 
 -- the name of the authorizer
 unfoldable pub provider_in : Data → List ℕ

@@ -4,17 +4,18 @@ use Rattle.serde_json.specs.Data.{Data}
 use Rattle.mesh_doc.specs.Faults.{Check, ◌⨾◌, ◌▸◌, demands}
 use Rattle.mesh_doc.specs.Fields.{strict, required, required_in}
 use Rattle.mesh_doc.specs.Kinds.{text_in}
-use Rattle.mesh_doc.specs.Lists.{listed, listed_in}
+use Rattle.mesh_doc.specs.Lists.{listed_in}
 use Rattle.mesh_doc.specs.declared.reason.Reason.TheVariants as reason
 use Rattle.mesh_policy.specs.declared.condition.Condition.{Condition}
 use Rattle.mesh_policy.specs.declared.condition.Condition.TheVariants as condition
 use Rattle.mesh_policy.specs.declared.condition.TextKey.TheVariants as text_key
+use Rattle.policy_json.specs.BothListed.{both_listed, both_listed_in}
 use Rattle.policy_json.specs.ConditionKeys.{key_faults, key_in}
 use Rattle.policy_json.specs.Texts.{short_text_faults}
 use Rattle.policy_json.specs.Values.{block_faults, block_in, port_value_faults, port_value_in, request_principal_faults}
+use Rattle.policy_json.specs.declared.both_listed.ValueLists.{ValueLists}
 use Rattle.policy_json.specs.declared.condition_keys.ConditionKey.{ConditionKey}
 use Rattle.policy_json.specs.declared.condition_keys.ConditionKey.TheVariants as key
-use Rattle.policy_json.specs.declared.conditions.ValueLists.{ValueLists}
 use Rattle.policy_json.specs.declared.conditions.TheConstants.{KEY, VALUES, NOT_VALUES}
 
 -- one list at least has an entry
@@ -23,14 +24,11 @@ has_entries value d = not ((length (listed_in VALUES.now value d) == 0) && (leng
 
 -- `values` and `notValues`, of entries of one form
 unfoldable pub both_faults : {A : Type 0} → Check → (Data → A) → Check
-both_faults f value =
-    listed VALUES.now 2048 f
-    ⨾ listed NOT_VALUES.now 2048 f
-    ⨾ demands (has_entries value) reason.EmptyCondition
+both_faults f value = both_listed VALUES.now NOT_VALUES.now f ⨾ demands (has_entries value) reason.EmptyCondition
 
 -- what both lists mean
 abbrev pub both_in : {A : Type 0} → (Data → A) → Data → ValueLists A
-both_in value d = record { values = listed_in VALUES.now value d; not_values = listed_in NOT_VALUES.now value d }
+both_in value = both_listed_in VALUES.now NOT_VALUES.now value
 
 -- the key says which form the values have
 abbrev pub values_faults : ConditionKey → Check

@@ -1,4 +1,5 @@
 pub mod Authorization
+pub mod BothListed
 pub mod ConditionKeys
 pub mod Conditions
 pub mod JwtRules

@@ -4,8 +4,9 @@ use Rattle.serde_json.specs.Data.{Data}
 use Rattle.mesh_doc.specs.Faults.{Check, ◌⨾◌}
 use Rattle.mesh_doc.specs.Fields.{strict}
 use Rattle.mesh_doc.specs.Kinds.{text_in}
-use Rattle.mesh_doc.specs.Lists.{listed, listed_in}
+use Rattle.mesh_doc.specs.Lists.{listed_in}
 use Rattle.mesh_policy.specs.declared.policy.OperationSpec.{OperationSpec}
+use Rattle.policy_json.specs.BothListed.{both_listed}
 use Rattle.policy_json.specs.Texts.{short_text_faults}
 use Rattle.policy_json.specs.Values.{path_faults, port_value_faults, port_value_in}
 use Rattle.policy_json.specs.declared.operations.TheConstants.{HOSTS, NOT_HOSTS, PORTS, NOT_PORTS, METHODS, NOT_METHODS, PATHS, NOT_PATHS}
@@ -14,14 +15,10 @@ use Rattle.policy_json.specs.declared.operations.TheConstants.{HOSTS, NOT_HOSTS,
 unfoldable pub operation_faults : Check
 operation_faults =
     strict (HOSTS.now ∷ NOT_HOSTS.now ∷ PORTS.now ∷ NOT_PORTS.now ∷ METHODS.now ∷ NOT_METHODS.now ∷ PATHS.now ∷ NOT_PATHS.now ∷ [])
-    (listed HOSTS.now 2048 short_text_faults
-    ⨾ listed NOT_HOSTS.now 2048 short_text_faults
-    ⨾ listed PORTS.now 2048 port_value_faults
-    ⨾ listed NOT_PORTS.now 2048 port_value_faults
-    ⨾ listed METHODS.now 2048 short_text_faults
-    ⨾ listed NOT_METHODS.now 2048 short_text_faults
-    ⨾ listed PATHS.now 2048 path_faults
-    ⨾ listed NOT_PATHS.now 2048 path_faults)
+    (both_listed HOSTS.now NOT_HOSTS.now short_text_faults
+    ⨾ both_listed PORTS.now NOT_PORTS.now port_value_faults
+    ⨾ both_listed METHODS.now NOT_METHODS.now short_text_faults
+    ⨾ both_listed PATHS.now NOT_PATHS.now path_faults)
 
 -- what an Operation means
 unfoldable pub operation_in : Data → OperationSpec

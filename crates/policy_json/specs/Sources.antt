@@ -4,8 +4,9 @@ use Rattle.serde_json.specs.Data.{Data}
 use Rattle.mesh_doc.specs.Faults.{Check, ◌⨾◌}
 use Rattle.mesh_doc.specs.Fields.{strict}
 use Rattle.mesh_doc.specs.Kinds.{text_in}
-use Rattle.mesh_doc.specs.Lists.{listed, listed_in}
+use Rattle.mesh_doc.specs.Lists.{listed_in}
 use Rattle.mesh_policy.specs.declared.policy.SourceSpec.{SourceSpec}
+use Rattle.policy_json.specs.BothListed.{both_listed}
 use Rattle.policy_json.specs.Texts.{short_text_faults}
 use Rattle.policy_json.specs.Values.{block_faults, block_in, request_principal_faults}
 use Rattle.policy_json.specs.declared.sources.TheConstants.{PRINCIPALS, NOT_PRINCIPALS, REQUEST_PRINCIPALS, NOT_REQUEST_PRINCIPALS}
@@ -18,16 +19,11 @@ source_faults =
     strict (PRINCIPALS.now ∷ NOT_PRINCIPALS.now ∷ REQUEST_PRINCIPALS.now ∷ NOT_REQUEST_PRINCIPALS.now
     ∷ NAMESPACES.now ∷ NOT_NAMESPACES.now
     ∷ IP_BLOCKS.now ∷ NOT_IP_BLOCKS.now ∷ REMOTE_IP_BLOCKS.now ∷ NOT_REMOTE_IP_BLOCKS.now ∷ [])
-    (listed PRINCIPALS.now 2048 short_text_faults
-    ⨾ listed NOT_PRINCIPALS.now 2048 short_text_faults
-    ⨾ listed REQUEST_PRINCIPALS.now 2048 request_principal_faults
-    ⨾ listed NOT_REQUEST_PRINCIPALS.now 2048 request_principal_faults
-    ⨾ listed NAMESPACES.now 2048 short_text_faults
-    ⨾ listed NOT_NAMESPACES.now 2048 short_text_faults
-    ⨾ listed IP_BLOCKS.now 2048 block_faults
-    ⨾ listed NOT_IP_BLOCKS.now 2048 block_faults
-    ⨾ listed REMOTE_IP_BLOCKS.now 2048 block_faults
-    ⨾ listed NOT_REMOTE_IP_BLOCKS.now 2048 block_faults)
+    (both_listed PRINCIPALS.now NOT_PRINCIPALS.now short_text_faults
+    ⨾ both_listed REQUEST_PRINCIPALS.now NOT_REQUEST_PRINCIPALS.now request_principal_faults
+    ⨾ both_listed NAMESPACES.now NOT_NAMESPACES.now short_text_faults
+    ⨾ both_listed IP_BLOCKS.now NOT_IP_BLOCKS.now block_faults
+    ⨾ both_listed REMOTE_IP_BLOCKS.now NOT_REMOTE_IP_BLOCKS.now block_faults)
 
 -- what a Source means
 unfoldable pub source_in : Data → SourceSpec

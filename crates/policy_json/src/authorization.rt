@@ -3,21 +3,20 @@ ghost use Rattle.std.specs.Prelude.{◌≡◌, IfOk, IsTrue, option_map};
 ghost use Rattle.serde_json.specs.View.{view};
 ghost use Rattle.mesh_doc.specs.Faults.{Reads};
 ghost use Rattle.mesh_doc.specs.Fields.{spec_of};
-ghost use Rattle.mesh_doc.specs.declared.reason.Reason.TheVariants.{BadName};
 ghost use Rattle.mesh_policy.specs.AcceptedRules.{AcceptedPolicy};
 ghost use Rattle.mesh_policy.specs.Values.{belongs};
 ghost use Rattle.mesh_text.specs.Dns.{is_label, is_subdomain};
-ghost use Rattle.mesh_text.specs.Token as token;
 ghost use Rattle.policy_json.specs.Authorization.{action_faults, action_in, action_of, authorization_faults, authorization_in, provider_faults, provider_in};
 
 use crate::labels::{SELECTOR, Selector};
 use crate::rules::RuleEntry;
 use crate::target_refs::{TARGET_REF, TARGET_REFS, no_targets};
+use crate::texts::IsToken;
 use mesh_doc::{
-    DocError, Form, Place, Reason, Spot, Tested, TextTest, empty_object, listed, optional, required,
+    DocError, Form, Place, Reason, Spot, Tested, empty_object, listed, optional, required,
 };
 use mesh_policy::{Action, AuthorizationPolicy, MOST_ENTRIES};
-use mesh_text::{List, Text, is_token};
+use mesh_text::{List, Text};
 use serde_json::Value;
 use std::alloc::Global;
 
@@ -169,21 +168,5 @@ impl Form for Provider {
     fn read(alloc: Global, v: &Value, at: &Spot) -> Result<Text, DocError> {
         at.only_fields(alloc, v, &[NAME])?;
         required::<Tested<IsToken>>(alloc, v, NAME, at)
-    }
-}
-
-struct IsToken;
-
-impl TextTest for IsToken {
-    ghost passes = { token.is_token };
-
-    ghost reason = { BadName };
-
-    fn passes(text: &str) -> bool {
-        is_token(text)
-    }
-
-    fn reason() -> Reason {
-        Reason::BadName
     }
 }

@@ -4,12 +4,12 @@ ghost use Rattle.mesh_doc.specs.Faults.{Reads};
 ghost use Rattle.policy_json.specs.Conditions as conditions;
 ghost use Rattle.policy_json.specs.Conditions.{condition_faults, condition_in};
 
+use crate::both_listed::{ValueLists, both_listed};
 use crate::condition_keys::{ConditionKey, KeyName};
 use crate::texts::ShortText;
 use crate::values::{BlockValue, PortValue, RequestPrincipal};
-use mesh_doc::{DocError, Form, Reason, Spot, listed, required};
-use mesh_policy::{Condition, MOST_ENTRIES, TextKey};
-use mesh_text::List;
+use mesh_doc::{DocError, Form, Reason, Spot, required};
+use mesh_policy::{Condition, TextKey};
 use serde_json::Value;
 use std::alloc::Global;
 
@@ -75,22 +75,15 @@ fn with_key(alloc: Global, key: ConditionKey, v: &Value, at: &Spot) -> Result<Co
     }
 }
 
-#[derive(Drop)]
-struct ValueLists<T> {
-    values: List<T>,
-    not_values: List<T>,
-}
-
 #[tactic(auto, unfolding(crate::specs::Conditions::both_faults))]
 fn both_lists<F: Form>(alloc: Global, v: &Value, at: &Spot) -> Result<ValueLists<F::Out>, DocError>
     ensures { Reads result
         (conditions.both_faults F.faults F.value (view v.now) at.now)
         (conditions.both_in F.value (view v.now)) }
 {
-    let values = listed::<F>(alloc, v, VALUES, MOST_ENTRIES, at)?;
-    let not_values = listed::<F>(alloc, v, NOT_VALUES, MOST_ENTRIES, at)?;
-    if values.is_empty() && not_values.is_empty() {
+    let lists = both_listed::<F>(alloc, v, VALUES, NOT_VALUES, at)?;
+    if lists.values.is_empty() && lists.not_values.is_empty() {
         return Err(at.refuse(alloc, Reason::EmptyCondition));
     }
-    Ok(ValueLists { values, not_values })
+    Ok(lists)
 }

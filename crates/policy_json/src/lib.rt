@@ -3,6 +3,7 @@
 #![tactic(auto)]
 
 mod authorization;
+mod both_listed;
 mod condition_keys;
 mod conditions;
 mod jwt_rules;
@@ -24,4 +25,5 @@ pub use authorization::{read_authorization, read_authorization_at};
 pub use labels::{Labels, read_labels};
 pub use peer::{read_peer, read_peer_at};
 pub use request::{read_request, read_request_at};
+pub use texts::IsToken;
 pub use words::{authorization_words, condition_key_words, peer_words, request_words, rule_words};

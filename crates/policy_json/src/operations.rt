@@ -1,10 +1,11 @@
 // What a request asks for: the operation of a rule.
 ghost use Rattle.policy_json.specs.Operations.{operation_faults, operation_in};
 
+use crate::both_listed::both_listed;
 use crate::texts::ShortText;
 use crate::values::{PathValue, PortValue};
-use mesh_doc::{DocError, Form, Spot, listed};
-use mesh_policy::{MOST_ENTRIES, OperationSpec};
+use mesh_doc::{DocError, Form, Spot};
+use mesh_policy::OperationSpec;
 use serde_json::Value;
 use std::alloc::Global;
 
@@ -50,23 +51,19 @@ impl Form for Operation {
                 NOT_PATHS,
             ],
         )?;
-        let hosts = listed::<ShortText>(alloc, v, HOSTS, MOST_ENTRIES, at)?;
-        let not_hosts = listed::<ShortText>(alloc, v, NOT_HOSTS, MOST_ENTRIES, at)?;
-        let ports = listed::<PortValue>(alloc, v, PORTS, MOST_ENTRIES, at)?;
-        let not_ports = listed::<PortValue>(alloc, v, NOT_PORTS, MOST_ENTRIES, at)?;
-        let methods = listed::<ShortText>(alloc, v, METHODS, MOST_ENTRIES, at)?;
-        let not_methods = listed::<ShortText>(alloc, v, NOT_METHODS, MOST_ENTRIES, at)?;
-        let paths = listed::<PathValue>(alloc, v, PATHS, MOST_ENTRIES, at)?;
-        let not_paths = listed::<PathValue>(alloc, v, NOT_PATHS, MOST_ENTRIES, at)?;
+        let hosts = both_listed::<ShortText>(alloc, v, HOSTS, NOT_HOSTS, at)?;
+        let ports = both_listed::<PortValue>(alloc, v, PORTS, NOT_PORTS, at)?;
+        let methods = both_listed::<ShortText>(alloc, v, METHODS, NOT_METHODS, at)?;
+        let paths = both_listed::<PathValue>(alloc, v, PATHS, NOT_PATHS, at)?;
         Ok(OperationSpec {
-            hosts,
-            not_hosts,
-            ports,
-            not_ports,
-            methods,
-            not_methods,
-            paths,
-            not_paths,
+            hosts: hosts.values,
+            not_hosts: hosts.not_values,
+            ports: ports.values,
+            not_ports: ports.not_values,
+            methods: methods.values,
+            not_methods: methods.not_values,
+            paths: paths.values,
+            not_paths: paths.not_values,
         })
     }
 }

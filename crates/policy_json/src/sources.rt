@@ -1,10 +1,11 @@
 // Who a request comes from: the source of a rule.
 ghost use Rattle.policy_json.specs.Sources.{source_faults, source_in};
 
+use crate::both_listed::both_listed;
 use crate::texts::ShortText;
 use crate::values::{BlockValue, RequestPrincipal};
-use mesh_doc::{DocError, Form, Spot, listed};
-use mesh_policy::{MOST_ENTRIES, SourceSpec};
+use mesh_doc::{DocError, Form, Spot};
+use mesh_policy::SourceSpec;
 use serde_json::Value;
 use std::alloc::Global;
 
@@ -56,45 +57,34 @@ impl Form for Source {
                 NOT_REMOTE_IP_BLOCKS,
             ],
         )?;
-        let principals = listed::<ShortText>(alloc, v, PRINCIPALS, MOST_ENTRIES, at)?;
-        let not_principals = listed::<ShortText>(alloc, v, NOT_PRINCIPALS, MOST_ENTRIES, at)?;
-        let request_principals = listed::<RequestPrincipal>(
+        let principals = both_listed::<ShortText>(alloc, v, PRINCIPALS, NOT_PRINCIPALS, at)?;
+        let request_principals = both_listed::<RequestPrincipal>(
             alloc,
             v,
             REQUEST_PRINCIPALS,
-            MOST_ENTRIES,
-            at,
-        )?;
-        let not_request_principals = listed::<RequestPrincipal>(
-            alloc,
-            v,
             NOT_REQUEST_PRINCIPALS,
-            MOST_ENTRIES,
             at,
         )?;
-        let namespaces = listed::<ShortText>(alloc, v, NAMESPACES, MOST_ENTRIES, at)?;
-        let not_namespaces = listed::<ShortText>(alloc, v, NOT_NAMESPACES, MOST_ENTRIES, at)?;
-        let ip_blocks = listed::<BlockValue>(alloc, v, IP_BLOCKS, MOST_ENTRIES, at)?;
-        let not_ip_blocks = listed::<BlockValue>(alloc, v, NOT_IP_BLOCKS, MOST_ENTRIES, at)?;
-        let remote_ip_blocks = listed::<BlockValue>(alloc, v, REMOTE_IP_BLOCKS, MOST_ENTRIES, at)?;
-        let not_remote_ip_blocks = listed::<BlockValue>(
+        let namespaces = both_listed::<ShortText>(alloc, v, NAMESPACES, NOT_NAMESPACES, at)?;
+        let ip_blocks = both_listed::<BlockValue>(alloc, v, IP_BLOCKS, NOT_IP_BLOCKS, at)?;
+        let remote_ip_blocks = both_listed::<BlockValue>(
             alloc,
             v,
+            REMOTE_IP_BLOCKS,
             NOT_REMOTE_IP_BLOCKS,
-            MOST_ENTRIES,
             at,
         )?;
         Ok(SourceSpec {
-            principals,
-            not_principals,
-            request_principals,
-            not_request_principals,
-            namespaces,
-            not_namespaces,
-            ip_blocks,
-            not_ip_blocks,
-            remote_ip_blocks,
-            not_remote_ip_blocks,
+            principals: principals.values,
+            not_principals: principals.not_values,
+            request_principals: request_principals.values,
+            not_request_principals: request_principals.not_values,
+            namespaces: namespaces.values,
+            not_namespaces: namespaces.not_values,
+            ip_blocks: ip_blocks.values,
+            not_ip_blocks: ip_blocks.not_values,
+            remote_ip_blocks: remote_ip_blocks.values,
+            not_remote_ip_blocks: remote_ip_blocks.not_values,
         })
     }
 }

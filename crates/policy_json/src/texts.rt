@@ -1,7 +1,8 @@
-// Texts that pass a test: bounds of length, and names that are kept in lower case.
+// Texts that pass a test: bounds of length, tokens, and names that are kept in lower case.
 ghost use Rattle.std.specs.Prelude.{◌≡◌, IfOk};
 ghost use Rattle.mesh_doc.specs.declared.reason.Reason.TheVariants.{BadName, BadValue};
 ghost use Rattle.mesh_policy.specs.Values.{is_bounded, is_name, is_short, lowered};
+ghost use Rattle.mesh_text.specs.Token as token;
 ghost use Rattle.policy_json.specs.Texts.{lower_name_faults, lower_name_in};
 
 use mesh_doc::{DocError, Form, Reason, Spot, Tested, TextTest};
@@ -45,6 +46,23 @@ impl TextTest for IsBounded {
 
     fn reason() -> Reason {
         Reason::BadValue
+    }
+}
+
+/// A test of texts: a token (RFC 9110, section 5.6.2), else BadName.
+pub struct IsToken;
+
+impl TextTest for IsToken {
+    ghost passes = { token.is_token };
+
+    ghost reason = { BadName };
+
+    fn passes(text: &str) -> bool {
+        is_token(text)
+    }
+
+    fn reason() -> Reason {
+        Reason::BadName
     }
 }
 

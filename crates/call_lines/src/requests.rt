@@ -6,12 +6,13 @@ use mesh_text::{List, Text};
 use serde_json::Value;
 use std::alloc::Global;
 
-/// `{"path": TEXT, "method": TEXT, "headers": [[NAME, VALUE], ..]}`; a GET, and without headers, where these are absent.
+/// `{"path": TEXT, "method": TEXT, "authority": TEXT, "headers": [[NAME, VALUE], ..]}`; a GET, and without a host or headers, where
+/// these are absent.
 pub fn request_of(alloc: Global, v: &Value) -> Result<Request, Stop> {
     Ok(Request {
         method: Text::of(alloc, method_in(v)?)?,
         path: Text::of(alloc, text_in(v, "path")?)?,
-        authority: None,
+        authority: authority_in(alloc, v)?,
         headers: headers_in(alloc, v)?,
     })
 }
@@ -20,6 +21,13 @@ fn method_in(v: &Value) -> Result<&str, Stop> {
     match v.get("method") {
         None => Ok("GET"),
         Some(method) => text_of(method),
+    }
+}
+
+fn authority_in(alloc: Global, v: &Value) -> Result<Option<Text>, Stop> {
+    match v.get("authority") {
+        None => Ok(None),
+        Some(host) => Ok(Some(Text::of(alloc, text_of(host)?)?)),
     }
 }
 

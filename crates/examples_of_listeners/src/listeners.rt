@@ -8,7 +8,8 @@ use envoy_types::{
     NetworkFilter, PermissionLeaf, StringMatcher, Transport,
 };
 use leaf_json::{string_to_value, tree_to_value};
-use listener_json::{from_value, to_value};
+use listener_reader::from_value;
+use listener_writer::to_value;
 use mesh_doc::Place;
 use mesh_text::{List, Memory, Text};
 use mesh_tree::Tree;

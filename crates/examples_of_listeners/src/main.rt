@@ -6,6 +6,7 @@ mod listener_rules;
 mod listeners;
 mod matchers;
 mod peers;
+mod requests;
 mod token_filters;
 mod trees;
 
@@ -27,6 +28,9 @@ impl Calls for OfListeners {
             return Ok(Some(answer));
         }
         if let Some(answer) = peers::answer(alloc, call)? {
+            return Ok(Some(answer));
+        }
+        if let Some(answer) = requests::answer(alloc, call)? {
             return Ok(Some(answer));
         }
         listeners::answer(alloc, call)

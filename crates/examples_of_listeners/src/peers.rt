@@ -32,7 +32,8 @@ fn parts(alloc: Global, name: &str) -> Result<Option<String>, Stop> {
     )?))
 }
 
-fn pattern(alloc: Global, call: &Call) -> Result<Pattern, Stop>
+/// The match value that is the first argument.
+pub fn pattern(alloc: Global, call: &Call) -> Result<Pattern, Stop>
     ensures { IfOk result HasNoEmptyText }
 {
     let value = call.text(0)?;
@@ -42,7 +43,8 @@ fn pattern(alloc: Global, call: &Call) -> Result<Pattern, Stop>
     Ok(Pattern::parse(alloc, value)?)
 }
 
-fn shown<L: Form>(alloc: Global, tree: &Tree<L>) -> Result<Option<String>, Stop> {
+/// The tree as JSON.
+pub fn shown<L: Form>(alloc: Global, tree: &Tree<L>) -> Result<Option<String>, Stop> {
     let value = tree_to_value(alloc, tree)?;
     Ok(Some(value.to_string(alloc)?))
 }

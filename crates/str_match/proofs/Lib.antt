@@ -1,1 +1,3 @@
+pub mod HeadersHold
+pub mod PathsHold
 pub mod ServerNameHolds

@@ -8,12 +8,8 @@ use Rattle.mesh_policy.specs.Pattern.{HasNoEmptyText, pattern_holds}
 use Rattle.mesh_policy.specs.RuleHolds.{text_matches}
 use Rattle.mesh_policy.specs.declared.pattern.Pattern.{Pattern}
 use Rattle.mesh_policy.specs.declared.pattern.Pattern.TheVariants.{Exact, Prefix, Suffix, Present}
-use Rattle.mesh_tree.specs.Judge.{node_holds, tree_holds}
-use Rattle.mesh_tree.specs.Tree.{tree_of}
-use Rattle.mesh_tree.specs.declared.tree.Node.{Node-F, fold-Node, fold-roll-Node, out-Node}
-use Rattle.mesh_tree.specs.declared.tree.Node.TheVariants as Node
-use Rattle.mesh_tree.specs.declared.tree.Tree.{Tree, fold-roll-Tree}
-use Rattle.mesh_tree.proofs.FoldLemmas.{fold-tree_of}
+use Rattle.mesh_tree.specs.declared.tree.Tree.{Tree}
+use Rattle.mesh_tree.proofs.JudgeLemmas.{holds-leaf, holds-not}
 use Rattle.envoy_types.specs.Permission.{leaf_holds}
 use Rattle.envoy_types.specs.Strings.{matcher_of, matcher_with, string_holds}
 use Rattle.envoy_types.specs.declared.permission.PermissionLeaf.{PermissionLeaf}
@@ -21,19 +17,6 @@ use Rattle.envoy_types.specs.declared.permission.PermissionLeaf.TheVariants.{Ser
 use Rattle.envoy_types.specs.declared.strings.MatchKind.TheVariants as kind
 use Rattle.envoy_types.specs.declared.strings.StringMatcher.{StringMatcher}
 use Rattle.str_match.specs.ServerName.{HoldsAs, asked_for, asked_for_any, asked_for_by, sni_tree}
-
--- ---- trees of one node
-
-module _ {L : Type 0} (p : L → Bool) where
-  holds-leaf : (leaf : L) → tree_holds p (tree_of (Node.Leaf leaf)) ≡ p leaf
-  unfolding out-Node denote.Hole.Carrier.out
-  holds-leaf leaf = fold-tree_of (node_holds p) (Node.Leaf leaf)
-
-  holds-not : (tree : Tree L) → tree_holds p (tree_of (Node.Not tree)) ≡ not (tree_holds p tree)
-  holds-not tree =
-      fold-roll-Tree L Bool Bool (node_holds p) (λ t. t.node) (record { node = Node.Not tree })
-      ∙ ap (fold-Node L Bool Bool (node_holds p) (λ t. t.node)) (sym (Node.rolls-Not tree))
-      ∙ fold-roll-Node L Bool Bool (node_holds p) (λ t. t.node) (Node-F.Not tree)
 
 -- ---- a server name, or none
 

@@ -4,9 +4,10 @@ ghost use Rattle.mesh_policy.specs.Pattern.{HasNoEmptyText};
 ghost use Rattle.str_match.specs.ServerName as meaning;
 ghost use Rattle.str_match.specs.ServerName.{HoldsAs};
 
-use envoy_types::{MatchKind, PermissionLeaf, StringMatcher};
+use crate::no_text::no_text;
+use envoy_types::{PermissionLeaf, StringMatcher};
 use mesh_policy::Pattern;
-use mesh_text::{Memory, Text};
+use mesh_text::Memory;
 use mesh_tree::Tree;
 use std::alloc::Global;
 
@@ -27,10 +28,8 @@ pub fn sni_tree(alloc: Global, p: &Pattern) -> Result<Tree<PermissionLeaf>, Memo
 fn asked_for_any(alloc: Global) -> Result<Tree<PermissionLeaf>, Memory>
     ensures { IfOk result (λ tree. tree ≡ meaning.asked_for_any) }
 {
-    let none = StringMatcher {
-        kind: MatchKind::Exact,
-        text: Text::of(alloc, "")?,
-        ignore_case: false,
-    };
-    Tree::not(alloc, Tree::leaf(PermissionLeaf::ServerName(none)))
+    Tree::not(
+        alloc,
+        Tree::leaf(PermissionLeaf::ServerName(no_text(alloc)?)),
+    )
 }

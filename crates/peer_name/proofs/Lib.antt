@@ -6,4 +6,3 @@ pub mod SeenPeer
 pub mod Segments
 pub mod SuffixLemmas
 pub mod SuffixParts
-pub mod TreeHolds

@@ -26,6 +26,7 @@ use Rattle.mesh_tree.specs.Judge.{tree_holds}
 use Rattle.mesh_tree.specs.Tree.{tree_of}
 use Rattle.mesh_tree.specs.declared.tree.Node.TheVariants as Node
 use Rattle.mesh_tree.specs.declared.tree.Tree.{Tree}
+use Rattle.mesh_tree.proofs.JudgeLemmas.{holds-and, holds-any, holds-leaf, holds-not}
 use Rattle.envoy_types.specs.Principal.{leaf_holds}
 use Rattle.envoy_types.specs.State.{holds_of}
 use Rattle.envoy_types.specs.Strings.{matcher_with}
@@ -39,7 +40,6 @@ use Rattle.peer_name.specs.Principal.{known_peer}
 use Rattle.peer_name.proofs.NameSegments.{exact-part, prefix-of_sa, prefix-other, segmented, suffix-of_ns, suffix-other}
 use Rattle.peer_name.proofs.SeenPeer.{IsNamed, seen-is-named}
 use Rattle.peer_name.proofs.Segments.{prefix_slash, same_slash, suffix_slash}
-use Rattle.peer_name.proofs.TreeHolds.{holds-and, holds-any, holds-leaf, holds-not}
 
 -- ---- the parts of a name
 

@@ -19,6 +19,7 @@ use Rattle.mesh_policy.specs.declared.pattern.Pattern.{Pattern}
 use Rattle.mesh_policy.specs.declared.pattern.Pattern.TheVariants.{Exact, Prefix, Suffix, Present}
 use Rattle.mesh_tree.specs.Judge.{tree_holds}
 use Rattle.mesh_tree.specs.declared.tree.Tree.{Tree}
+use Rattle.mesh_tree.proofs.JudgeLemmas.{holds-and, holds-leaf, holds-not}
 use Rattle.envoy_types.specs.Principal.{leaf_holds, name_holds}
 use Rattle.envoy_types.specs.State.{holds_of}
 use Rattle.envoy_types.specs.Strings.{matcher_with}
@@ -30,7 +31,6 @@ use Rattle.peer_name.specs.Holds.{HoldsAs}
 use Rattle.peer_name.specs.Principal.{all_but_shorter, named, not_named, principal_tree, scheme_ends, suffix_tree}
 use Rattle.peer_name.proofs.SeenPeer.{IsNamed, seen-is-named}
 use Rattle.peer_name.proofs.SuffixLemmas.{behind-end, suffix-behind-scheme}
-use Rattle.peer_name.proofs.TreeHolds.{holds-and, holds-leaf, holds-not}
 
 -- ---- a test of the name beside one of the principal
 

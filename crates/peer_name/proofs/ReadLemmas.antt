@@ -1,17 +1,19 @@
 -- A name read from its front, part by part.
-use Rattle.std.proofs.Common.{◌≡◌, ◌≢◌, ℕ, ◌+◌, ◌-◌, Bool, true, false, ◌&&◌, List, [], ◌∷◌, ◌++◌, length, take, drop, codes}
+use Rattle.std.proofs.Common.{◌≡◌, ◌≢◌, ℕ, ◌+◌, ◌-◌, Bool, true, false, ◌&&◌, List, [], ◌∷◌, ◌++◌, length, take, drop, codes, Bor}
 use Rattle.std.proofs.Common.{Some, None, if◌then◌else◌, refl, sym, ◌∙◌, ap, arith, append_assoc, length-append, append-nil}
 use Rattle.std.proofs.Math.Seq.{drop-append_seam, take-append_seam}
 use Rattle.std.proofs.lemmas.Bool.{cond-false, false_from_ne_true}
 use Rattle.std.proofs.lemmas.Bool.Decides.{Decides-eqb}
 use Rattle.std.proofs.lemmas.Slice.Eq.{bytes_eq-Decides, starts_is}
+use Rattle.std.proofs.lemmas.Str.Pattern.{IsSplitOnceResult}
 use Rattle.std.specs.List.{join_with_byte, starts_with}
 use Rattle.std.specs.Str.{bytes_eq}
+use Rattle.std.specs.Str.Pattern.{FindsTextPrefix}
 use lib.Dec.{eqb}
 use Rattle.mesh_policy.specs.PeerNames.{IsNameOf, PeerName, is_peer, name_of, peer_in, peer_of, scheme}
-use Rattle.mesh_policy.specs.Template.{has_slash, segments_of}
+use Rattle.mesh_policy.specs.Template.{segments_of}
 use Rattle.mesh_policy.proofs.PeerNameLemmas.{names-are-read}
-use Rattle.mesh_policy.proofs.SlashLemmas.{join_split, split_plain, split_seam}
+use Rattle.mesh_policy.proofs.SlashLemmas.{join_split, no_more, one_more, parts_are, split_plain, split_seam}
 
 abbrev Begins : List ℕ → List ℕ → Type 0
 Begins front s = (rest : List ℕ) × (s ≡ front ++ rest)
@@ -91,48 +93,7 @@ not-sound trust namespace account h = at (segments_of account) (join_split accou
       ∙ ap (λ (b : Bool). if b then Some (made trust namespace account) else None) h
   at (first ∷ (next ∷ more)) e = refl
 
--- ---- how far a name is read
-
--- what `strip_prefix` leaves
-pub stripped : (word s rest : List ℕ) (n : ℕ) → s ≡ word ++ drop n s → rest ≡ drop n s → s ≡ word ++ rest
-stripped word s rest n e f = e ∙ ap (λ (r : List ℕ). word ++ r) (sym f)
-
-module _ (s rest : List ℕ) (begins : s ≡ scheme ++ rest) where
-  pub one-segment : has_slash rest ≡ false → None ≡ peer_of s
-  one-segment h = sym (behind-scheme s rest begins ∙ ap peer_in (split_plain rest h))
-
-  module _ (trust rest-2 : List ℕ) (cut : segments_of rest ≡ trust ∷ segments_of rest-2) where
-    behind-trust : peer_of s ≡ peer_in (trust ∷ segments_of rest-2)
-    behind-trust = behind-scheme s rest begins ∙ ap peer_in cut
-
-    pub no-ns-behind : ((more : List ℕ) → rest-2 ≢ codes "ns/" ++ more) → None ≡ peer_of s
-    no-ns-behind lacks = sym (behind-trust ∙ no-ns trust rest-2 lacks)
-
-    module _ (rest-3 : List ℕ) (ns : rest-2 ≡ codes "ns/" ++ rest-3) where
-      behind-ns : peer_of s ≡ peer_in (trust ∷ codes "ns" ∷ segments_of rest-3)
-      behind-ns =
-          behind-trust ∙ ap (λ (t : List ℕ). peer_in (trust ∷ segments_of t)) ns
-          ∙ ap (λ (ps : List (List ℕ)). peer_in (trust ∷ ps)) (split_seam (codes "ns") rest-3 refl)
-
-      pub three-segments : has_slash rest-3 ≡ false → None ≡ peer_of s
-      three-segments h =
-          sym (behind-ns ∙ ap (λ (ps : List (List ℕ)). peer_in (trust ∷ codes "ns" ∷ ps)) (split_plain rest-3 h))
-
-      module _ (namespace rest-4 : List ℕ) (cut-2 : segments_of rest-3 ≡ namespace ∷ segments_of rest-4) where
-        behind-namespace : peer_of s ≡ peer_in (trust ∷ codes "ns" ∷ namespace ∷ segments_of rest-4)
-        behind-namespace = behind-ns ∙ ap (λ (ps : List (List ℕ)). peer_in (trust ∷ codes "ns" ∷ ps)) cut-2
-
-        pub no-sa-behind : ((more : List ℕ) → rest-4 ≢ codes "sa/" ++ more) → None ≡ peer_of s
-        no-sa-behind lacks = sym (behind-namespace ∙ no-sa trust namespace rest-4 lacks)
-
-        pub not-sound-behind : (account : List ℕ) → rest-4 ≡ codes "sa/" ++ account → is_peer (made trust namespace account) ≡ false
-            → None ≡ peer_of s
-        not-sound-behind account sa h = sym (
-            behind-namespace ∙ ap (λ (t : List ℕ). peer_in (trust ∷ codes "ns" ∷ namespace ∷ segments_of t)) sa
-            ∙ ap (λ (ps : List (List ℕ)). peer_in (trust ∷ codes "ns" ∷ namespace ∷ ps)) (split_seam (codes "sa") account refl)
-            ∙ not-sound trust namespace account h)
-
--- ---- the parts of one that is well-formed
+-- ---- where the parts of one that is well-formed stand
 
 abbrev spelled : List ℕ → List ℕ → List ℕ → List ℕ
 spelled trust namespace account = scheme ++ (trust ++ (codes "/ns/" ++ (namespace ++ (codes "/sa/" ++ account))))
@@ -187,30 +148,75 @@ module _ (trust namespace account : List ℕ) (a b c d e f : ℕ) (at-trust : a 
       ∙ part-is (scheme ++ ((trust ++ codes "/ns/") ++ (namespace ++ codes "/sa/"))) account [] e f
       (omega (arith, at-trust, to-trust, at-namespace, to-namespace, at-account, long, long-1, long-2)) to-account
 
--- the whole, of what stood behind each part
-whole : (s rest trust rest-2 rest-3 namespace rest-4 account : List ℕ) → s ≡ scheme ++ rest → rest ≡ trust ++ (codes "/" ++ rest-2)
-    → rest-2 ≡ codes "ns/" ++ rest-3 → rest-3 ≡ namespace ++ (codes "/" ++ rest-4) → rest-4 ≡ codes "sa/" ++ account
-    → s ≡ spelled trust namespace account
-whole s rest trust rest-2 rest-3 namespace rest-4 account e f g h k =
-    e ∙ ap (λ (t : List ℕ). scheme ++ t) f ∙ ap (λ (t : List ℕ). scheme ++ (trust ++ (codes "/" ++ t))) g
-    ∙ ap (λ (t : List ℕ). scheme ++ (trust ++ (codes "/ns/" ++ t))) h
-    ∙ ap (λ (t : List ℕ). scheme ++ (trust ++ (codes "/ns/" ++ (namespace ++ (codes "/" ++ t))))) k
-
 same-parts : {a b c d e f : List ℕ} → a ≡ d → b ≡ e → c ≡ f → made a b c ≡ made d e f
 same-parts p q r = λ i. made (p i) (q i) (r i)
 
-pub sound-name : (s rest trust rest-2 rest-3 namespace rest-4 account : List ℕ) → s ≡ scheme ++ rest → rest ≡ trust ++ (codes "/" ++ rest-2)
-    → rest-2 ≡ codes "ns/" ++ rest-3 → rest-3 ≡ namespace ++ (codes "/" ++ rest-4) → rest-4 ≡ codes "sa/" ++ account
-    → is_peer (made trust namespace account) ≡ true → (a b c d e f : ℕ) → a ≡ 9 → b ≡ a + length trust → c ≡ b + 4
-    → d ≡ c + length namespace → e ≡ d + 4 → f ≡ e + length account
-    → Some (made (take (b - a) (drop a s)) (take (d - c) (drop c s)) (take (f - e) (drop e s))) ≡ peer_of s
-sound-name s rest trust rest-2 rest-3 namespace rest-4 account h1 h2 h3 h4 h5 sound a b c d e f p1 p2 p3 p4 p5 p6 =
-    let all : s ≡ spelled trust namespace account = whole s rest trust rest-2 rest-3 namespace rest-4 account h1 h2 h3 h4 h5 in
-    let parts : made (take (b - a) (drop a s)) (take (d - c) (drop c s)) (take (f - e) (drop e s)) ≡ made trust namespace account =
-    ap (λ (t : List ℕ). made (take (b - a) (drop a t)) (take (d - c) (drop c t)) (take (f - e) (drop e t))) all
-    ∙ same-parts
-    (trust-at trust namespace account a b c d e f p1 p2 p3 p4 p5 p6)
-    (namespace-at trust namespace account a b c d e f p1 p2 p3 p4 p5 p6)
-    (account-at trust namespace account a b c d e f p1 p2 p3 p4 p5 p6) in
-    let named : IsNameOf (made trust namespace account) s = record { spelled = all ∙ spelled-is trust namespace account; sound = sound } in
-    ap Some parts ∙ sym ((names-are-read s (made trust namespace account)).1 named)
+-- ---- how far a name is read
+
+-- what `strip_prefix` says of what it leaves
+abbrev Leaves : (word s rest : List ℕ) → Type 0
+Leaves word s rest = (n : ℕ) × FindsTextPrefix word s (Some n) × (rest ≡ drop n s) × (length rest + n ≡ length s)
+
+stripped : (word s rest : List ℕ) → Leaves word s rest → s ≡ word ++ rest
+stripped word s rest h = h.1.1 ∙ ap (λ (r : List ℕ). word ++ r) (sym h.2)
+
+module _ (s rest : List ℕ) (read : Leaves scheme s rest) where
+  pub one-segment : IsSplitOnceResult 47 rest None → None ≡ peer_of s
+  one-segment h = sym (behind-scheme s rest (stripped scheme s rest read) ∙ ap peer_in (split_plain rest (no_more rest h)))
+
+  module _ (trust rest-2 : Bor (List ℕ)) (cut : IsSplitOnceResult 47 rest (Some (trust, rest-2))) where
+    behind-trust : peer_of s ≡ peer_in (trust.now ∷ segments_of rest-2.now)
+    behind-trust = behind-scheme s rest (stripped scheme s rest read) ∙ ap peer_in (one_more rest (trust, rest-2) cut)
+
+    pub no-ns-behind : ((more : List ℕ) → rest-2.now ≢ codes "ns/" ++ more) → None ≡ peer_of s
+    no-ns-behind lacks = sym (behind-trust ∙ no-ns trust.now rest-2.now lacks)
+
+    module _ (rest-3 : List ℕ) (read-ns : Leaves (codes "ns/") rest-2.now rest-3) where
+      behind-ns : peer_of s ≡ peer_in (trust.now ∷ codes "ns" ∷ segments_of rest-3)
+      behind-ns =
+          behind-trust ∙ ap (λ (t : List ℕ). peer_in (trust.now ∷ segments_of t)) (stripped (codes "ns/") rest-2.now rest-3 read-ns)
+          ∙ ap (λ (ps : List (List ℕ)). peer_in (trust.now ∷ ps)) (split_seam (codes "ns") rest-3 refl)
+
+      pub three-segments : IsSplitOnceResult 47 rest-3 None → None ≡ peer_of s
+      three-segments h = sym (behind-ns
+          ∙ ap (λ (ps : List (List ℕ)). peer_in (trust.now ∷ codes "ns" ∷ ps)) (split_plain rest-3 (no_more rest-3 h)))
+
+      module _ (namespace rest-4 : Bor (List ℕ)) (cut-2 : IsSplitOnceResult 47 rest-3 (Some (namespace, rest-4))) where
+        behind-namespace : peer_of s ≡ peer_in (trust.now ∷ codes "ns" ∷ namespace.now ∷ segments_of rest-4.now)
+        behind-namespace = behind-ns
+            ∙ ap (λ (ps : List (List ℕ)). peer_in (trust.now ∷ codes "ns" ∷ ps)) (one_more rest-3 (namespace, rest-4) cut-2)
+
+        pub no-sa-behind : ((more : List ℕ) → rest-4.now ≢ codes "sa/" ++ more) → None ≡ peer_of s
+        no-sa-behind lacks = sym (behind-namespace ∙ no-sa trust.now namespace.now rest-4.now lacks)
+
+        module _ (account : List ℕ) (read-sa : Leaves (codes "sa/") rest-4.now account) where
+          pub not-sound-behind : is_peer (made trust.now namespace.now account) ≡ false → None ≡ peer_of s
+          not-sound-behind h = sym (
+              behind-namespace
+              ∙ ap (λ (t : List ℕ). peer_in (trust.now ∷ codes "ns" ∷ namespace.now ∷ segments_of t))
+              (stripped (codes "sa/") rest-4.now account read-sa)
+              ∙ ap (λ (ps : List (List ℕ)). peer_in (trust.now ∷ codes "ns" ∷ namespace.now ∷ ps)) (split_seam (codes "sa") account refl)
+              ∙ not-sound trust.now namespace.now account h)
+
+          -- the whole, of what stood behind each part
+          whole : s ≡ spelled trust.now namespace.now account
+          whole =
+              stripped scheme s rest read ∙ ap (λ (t : List ℕ). scheme ++ t) (parts_are rest (trust, rest-2) cut).2
+              ∙ ap (λ (t : List ℕ). scheme ++ (trust.now ++ (codes "/" ++ t))) (stripped (codes "ns/") rest-2.now rest-3 read-ns)
+              ∙ ap (λ (t : List ℕ). scheme ++ (trust.now ++ (codes "/ns/" ++ t))) (parts_are rest-3 (namespace, rest-4) cut-2).2
+              ∙ ap (λ (t : List ℕ). scheme ++ (trust.now ++ (codes "/ns/" ++ (namespace.now ++ (codes "/" ++ t)))))
+              (stripped (codes "sa/") rest-4.now account read-sa)
+
+          -- and the parts of a name that is well-formed
+          pub sound-name : is_peer (made trust.now namespace.now account) ≡ true → (a b c d e f : ℕ) → a ≡ 9
+              → b ≡ a + length trust.now → c ≡ b + 4 → d ≡ c + length namespace.now → e ≡ d + 4 → f ≡ e + length account
+              → Some (made (take (b - a) (drop a s)) (take (d - c) (drop c s)) (take (f - e) (drop e s))) ≡ peer_of s
+          sound-name sound a b c d e f p1 p2 p3 p4 p5 p6 =
+              let named : IsNameOf (made trust.now namespace.now account) s =
+              record { spelled = whole ∙ spelled-is trust.now namespace.now account; sound = sound } in
+              ap Some (ap (λ (t : List ℕ). made (take (b - a) (drop a t)) (take (d - c) (drop c t)) (take (f - e) (drop e t))) whole
+              ∙ same-parts
+              (trust-at trust.now namespace.now account a b c d e f p1 p2 p3 p4 p5 p6)
+              (namespace-at trust.now namespace.now account a b c d e f p1 p2 p3 p4 p5 p6)
+              (account-at trust.now namespace.now account a b c d e f p1 p2 p3 p4 p5 p6))
+              ∙ sym ((names-are-read s (made trust.now namespace.now account)).1 named)

@@ -16,6 +16,7 @@ use Rattle.mesh_policy.specs.declared.condition.TextKey.TheVariants.{SourcePrinc
 use Rattle.mesh_policy.specs.declared.condition.TextKey.TheVariants.{Audiences, Presenter, Claim}
 use Rattle.mesh_tree.specs.Judge.{tree_holds}
 use Rattle.mesh_tree.specs.declared.tree.Tree.{Tree}
+use Rattle.mesh_tree.proofs.JudgeLemmas.{holds-leaf}
 use Rattle.envoy_types.specs.declared.permission.PermissionLeaf.TheVariants as permission
 use Rattle.peer_name.specs.Holds.{HasNamedPeer}
 use Rattle.str_match.proofs.ServerNameHolds.{server-name-holds}
@@ -28,7 +29,7 @@ use Rattle.authz_gen.proofs.OperationsHold.{by_port, permits, port-matches}
 use Rattle.authz_gen.proofs.Sides.{HasSides, sides-hold}
 use Rattle.authz_gen.proofs.SourcesHold.{admits, by_block, by_key, namespace-matches, principal-matches}
 use Rattle.authz_gen.proofs.SourcesHold.{remote-block-matches, source-block-matches}
-use Rattle.authz_gen.proofs.TreeHolds.{HoldsAsMatched, all-holds, field-holds, holds-leaf}
+use Rattle.authz_gen.proofs.TreeHolds.{HoldsAsMatched, all-holds, field-holds}
 
 -- both lists of a condition
 module _ {L A : Type 0} (p : L → Bool) (tree : A → Tree L) (matches : A → Bool) where

@@ -10,7 +10,7 @@ use Rattle.std.specs.Str.{bytes_eq}
 use Rattle.std.specs.declared.cmp.Ordering.{Ordering}
 use Rattle.std.specs.declared.cmp.Ordering.TheVariants.{Less, Equal, Greater}
 use Rattle.mesh_policy.specs.Lists.{in_order, put}
-use Rattle.mesh_policy.proofs.Listed.{list_all-weaker}
+use Rattle.mesh_policy.proofs.Listed.{list_all-in_order, list_all-weaker}
 use Rattle.envoy_types.specs.Order.{is_below, names_rise}
 
 exchanged : (a b c : Bool) → (a || (b || c)) ≡ (b || (a || c))
@@ -44,11 +44,6 @@ module _ {A : Type 0} (before : A → A → Bool) (test : A → Bool) where
         → list_all test (cond b (y ∷ put before x ys) (x ∷ y ∷ ys)) ≡ (test x && list_all test (y ∷ ys))
     at true inner = ap (λ b. test y && b) inner ∙ both_exchanged (test y) (test x) (list_all test ys)
     at false inner = refl
-
-  -- all pass, wherever they stand
-  pub all-in_order : (xs : List A) → list_all test (in_order before xs) ≡ list_all test xs
-  all-in_order [] = refl
-  all-in_order (x ∷ xs) = all-put x (in_order before xs) ∙ ap (λ b. test x && b) (all-in_order xs)
 
 -- ---- names in byte order
 
@@ -104,4 +99,4 @@ module _ {A : Type 0} (name : A → List ℕ) where
   rises-in_order [] apart = refl
   rises-in_order (x ∷ xs) apart =
       let parts = and_parts (list_all (is_apart x) xs) (are_apart xs) apart in
-      rises-put x (in_order name_before xs) (rises-in_order xs parts.1) (all-in_order name_before (is_apart x) xs ∙ parts.0)
+      rises-put x (in_order name_before xs) (rises-in_order xs parts.1) (list_all-in_order name_before (is_apart x) xs ∙ parts.0)

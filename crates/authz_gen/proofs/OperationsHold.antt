@@ -7,12 +7,13 @@ use Rattle.mesh_policy.specs.RuleHolds.{both_hold, number_matches, operation_hol
 use Rattle.mesh_policy.specs.declared.case.Case.{Case}
 use Rattle.mesh_policy.specs.declared.policy.OperationSpec.{OperationSpec}
 use Rattle.mesh_tree.specs.Judge.{tree_holds}
+use Rattle.mesh_tree.proofs.JudgeLemmas.{holds-leaf}
 use Rattle.envoy_types.specs.Permission.{leaf_holds}
 use Rattle.envoy_types.specs.declared.permission.PermissionLeaf.{PermissionLeaf}
 use Rattle.envoy_types.specs.declared.permission.PermissionLeaf.TheVariants.{DestinationPort}
 use Rattle.authz_gen.specs.Lists.{field_of}
 use Rattle.authz_gen.specs.Operations.{operation_tcp, port_tree}
-use Rattle.authz_gen.proofs.TreeHolds.{all-holds, each-field-holds, holds-leaf}
+use Rattle.authz_gen.proofs.TreeHolds.{all-holds, each-field-holds}
 
 module _ (case : Case) (seen : Seen) where
   abbrev pub permits : PermissionLeaf → Bool

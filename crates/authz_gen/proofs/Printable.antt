@@ -4,7 +4,7 @@ use Rattle.std.proofs.lemmas.Bool.{and_from, ltb-false, or_parts}
 use Rattle.std.proofs.lemmas.List.Elements.{All-head, All-tail}
 use Rattle.std.proofs.lemmas.List.Folds.{list_all-append, list_all-map}
 use Rattle.std.specs.List.{enumerate_from, flat_map, list_all}
-use Rattle.mesh_policy.proofs.Listed.{list_all-filter}
+use Rattle.mesh_policy.proofs.Listed.{list_all-filter, list_all-in_order}
 use Rattle.mesh_policy.specs.AcceptedRules.{AcceptedCondition, AcceptedOperation, AcceptedPolicy, AcceptedRule, AcceptedSource}
 use Rattle.mesh_policy.specs.Sizes.{condition_size, operation_size, policy_size, rule_size, source_size}
 use Rattle.mesh_policy.specs.Sizes as sizes
@@ -28,7 +28,6 @@ use Rattle.authz_gen.proofs.Apart.{names-rise}
 use Rattle.authz_gen.proofs.ConditionsPrintable.{permission-of-fits, principal-by-fits}
 use Rattle.authz_gen.proofs.FieldsPrintable.{operation-fits, source-fits}
 use Rattle.authz_gen.proofs.Fits.{AllFit, all-of-fits, both-fit, one-of-fits}
-use Rattle.authz_gen.proofs.InOrder.{all-in_order}
 pub use Rattle.authz_gen.proofs.Small.{IsSmall}
 use Rattle.authz_gen.proofs.Small.{first-small, rest-small, sized-all-fit, sized-fit, width_of}
 use Rattle.authz_gen.proofs.TreePrintable.{printable}
@@ -129,7 +128,7 @@ pub filter-fits : (action : Action) (policies : List AuthorizationPolicy) → Ar
 unfolding tcp_rbac rbac_is_printable rules_are_printable policies_tcp
 filter-fits action policies h small =
     and_from _ _ (and_from _ _ (names-rise action policies h)
-    (all-in_order name_before policy_is_printable (flat_map rule_policies_tcp policies)
+    (list_all-in_order name_before policy_is_printable (flat_map rule_policies_tcp policies)
     ∙ policies-fit policies h.accepted.each small)) refl
 
 -- what keeps the limits of a workload together keeps them apart

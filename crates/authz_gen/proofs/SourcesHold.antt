@@ -11,6 +11,7 @@ use Rattle.mesh_policy.specs.RuleHolds.{block_matches, both_hold, source_holds, 
 use Rattle.mesh_policy.specs.declared.case.Case.{Case}
 use Rattle.mesh_policy.specs.declared.policy.SourceSpec.{SourceSpec}
 use Rattle.mesh_tree.specs.Judge.{tree_holds}
+use Rattle.mesh_tree.proofs.JudgeLemmas.{holds-leaf}
 use Rattle.envoy_types.specs.Principal.{leaf_holds}
 use Rattle.envoy_types.specs.declared.principal.PrincipalLeaf.{PrincipalLeaf}
 use Rattle.envoy_types.specs.declared.principal.PrincipalLeaf.TheVariants.{DirectRemoteIp, RemoteIp}
@@ -19,7 +20,7 @@ use Rattle.peer_name.proofs.PrincipalHolds.{principal-holds}
 use Rattle.peer_name.specs.Holds.{HasNamedPeer}
 use Rattle.authz_gen.specs.Lists.{field_of}
 use Rattle.authz_gen.specs.Sources.{namespace_of, principal_of, remote_block, source_block, source_tcp}
-use Rattle.authz_gen.proofs.TreeHolds.{all-holds, each-field-holds, holds-leaf}
+use Rattle.authz_gen.proofs.TreeHolds.{all-holds, each-field-holds}
 
 -- four lists of which all hold
 module _ {A : Type 0} (p : A → Bool) where

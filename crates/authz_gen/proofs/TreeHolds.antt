@@ -1,6 +1,6 @@
 -- What the trees of lists of values hold for.
-use Rattle.std.proofs.Common.{◌≡◌, ◌==◌, ◌<◌, Bool, true, not, ◌&&◌, ◌||◌, All, List, [], ◌∷◌, get_or, length, map, Ok}
-use Rattle.std.proofs.Common.{refl, sym, ◌∙◌, ap, arith}
+use Rattle.std.proofs.Common.{◌≡◌, ◌==◌, Bool, not, ◌&&◌, ◌||◌, All, List, [], ◌∷◌, get_or, length, map}
+use Rattle.std.proofs.Common.{refl, ◌∙◌, ap}
 use Rattle.std.proofs.Math.Bool.{and-true}
 use Rattle.std.proofs.Math.Dec.{eqb-suc-zero}
 use Rattle.std.proofs.lemmas.List.{length-map}
@@ -8,18 +8,11 @@ use Rattle.std.proofs.lemmas.List.Elements.{All-head, All-tail}
 use Rattle.std.proofs.lemmas.List.Folds.{list_all-append}
 use Rattle.std.specs.List.{list_all, list_any}
 use Rattle.mesh_policy.specs.RuleHolds as rules
-use Rattle.mesh_tree.specs.Joined.{and_of, or_of}
-use Rattle.mesh_tree.specs.Judge.{node_holds, tree_holds}
-use Rattle.mesh_tree.specs.Tree.{tree_of}
-use Rattle.mesh_tree.specs.declared.tree.Node.{Node-F, fold-Node, fold-roll-Node, out-Node}
-use Rattle.mesh_tree.specs.declared.tree.Node.TheVariants as Node
-use Rattle.mesh_tree.specs.declared.tree.Tree.{Tree, fold-roll-Tree}
-use Rattle.mesh_tree.proofs.FoldLemmas.{fold-tree_of}
-use Rattle.mesh_tree.proofs.JudgeLemmas.{and_meaning, or_meaning}
+use Rattle.mesh_tree.specs.Joined.{or_of}
+use Rattle.mesh_tree.specs.Judge.{tree_holds}
+use Rattle.mesh_tree.specs.declared.tree.Tree.{Tree}
+use Rattle.mesh_tree.proofs.JudgeLemmas.{holds-and, holds-any, holds-not, holds-or}
 use Rattle.authz_gen.specs.Lists.{all_of, field_of, if_any, none_of}
-
-some : {A : Type 0} (x : A) (xs : List A) → 0 < length (x ∷ xs)
-some x xs = omega arith
 
 -- what is made of each entry passes where the entry does
 pub any-made : {A B : Type 0} (test : B → Bool) (make : A → B) (matches : A → Bool) (xs : List A)
@@ -37,40 +30,20 @@ one_of-made test make xs =
     ∙ ap (λ b. (length xs == 0) || b) (any-made test make (λ x. test (make x)) xs (λ k d within. refl))
 
 module _ {L : Type 0} (p : L → Bool) where
-  pub holds-any : tree_holds p (tree_of Node.Any) ≡ true
-  unfolding out-Node denote.Hole.Carrier.out
-  holds-any = fold-tree_of (node_holds p) Node.Any
-
-  pub holds-leaf : (leaf : L) → tree_holds p (tree_of (Node.Leaf leaf)) ≡ p leaf
-  unfolding out-Node denote.Hole.Carrier.out
-  holds-leaf leaf = fold-tree_of (node_holds p) (Node.Leaf leaf)
-
-  holds-not : (tree : Tree L) → tree_holds p (tree_of (Node.Not tree)) ≡ not (tree_holds p tree)
-  holds-not tree =
-      fold-roll-Tree L Bool Bool (node_holds p) (λ t. t.node) (record { node = Node.Not tree })
-      ∙ ap (fold-Node L Bool Bool (node_holds p) (λ t. t.node)) (sym (Node.rolls-Not tree))
-      ∙ fold-roll-Node L Bool Bool (node_holds p) (λ t. t.node) (Node-F.Not tree)
-
-  holds-or : (t : Tree L) (ts : List (Tree L)) → tree_holds p (or_of (t ∷ ts)) ≡ list_any (tree_holds p) (t ∷ ts)
-  holds-or t ts = or_meaning (t ∷ ts) (some t ts) (Ok (or_of (t ∷ ts))) refl p
-
-  holds-and : (t : Tree L) (ts : List (Tree L)) → tree_holds p (and_of (t ∷ ts)) ≡ list_all (tree_holds p) (t ∷ ts)
-  holds-and t ts = and_meaning (t ∷ ts) (some t ts) (Ok (and_of (t ∷ ts))) refl p
-
   pub all-holds : (ts : List (Tree L)) → tree_holds p (all_of ts) ≡ list_all (tree_holds p) ts
-  all-holds [] = holds-any
-  all-holds (t ∷ ts) = rw (eqb-suc-zero (length ts)) (holds-and t ts)
+  all-holds [] = holds-any p
+  all-holds (t ∷ ts) = rw (eqb-suc-zero (length ts)) (holds-and p t ts)
 
   one-holds : (ts : List (Tree L)) → list_all (tree_holds p) (if_any or_of ts) ≡ ((length ts == 0) || list_any (tree_holds p) ts)
   one-holds [] = refl
   one-holds (t ∷ ts) =
-      rw (eqb-suc-zero (length ts)) (and-true (tree_holds p (or_of (t ∷ ts))) ∙ holds-or t ts)
+      rw (eqb-suc-zero (length ts)) (and-true (tree_holds p (or_of (t ∷ ts))) ∙ holds-or p t ts)
 
   none-holds : (ts : List (Tree L)) → list_all (tree_holds p) (if_any none_of ts) ≡ not (list_any (tree_holds p) ts)
   none-holds [] = refl
   none-holds (t ∷ ts) =
       rw (eqb-suc-zero (length ts))
-      (and-true (tree_holds p (none_of (t ∷ ts))) ∙ holds-not (or_of (t ∷ ts)) ∙ ap not (holds-or t ts))
+      (and-true (tree_holds p (none_of (t ∷ ts))) ∙ holds-not p (or_of (t ∷ ts)) ∙ ap not (holds-or p t ts))
 
   module _ {A : Type 0} (tree : A → Tree L) (matches : A → Bool) where
     -- the tree of a value holds where the value matches

@@ -1,4 +1,5 @@
 pub mod Conditions
+pub mod Laws
 pub mod Lists
 pub mod Operations
 pub mod Policies

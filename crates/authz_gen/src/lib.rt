@@ -3,7 +3,9 @@
 #![tactic(auto)]
 
 mod conditions;
+mod fields;
 mod in_order;
+mod laws;
 mod lists;
 mod needs_http;
 mod operations;
@@ -11,4 +13,5 @@ mod policies;
 mod rules;
 mod sources;
 
+pub use laws::tcp_filters_enforce;
 pub use policies::tcp_rbac;

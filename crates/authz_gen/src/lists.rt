@@ -7,19 +7,6 @@ use mesh_text::{List, Memory};
 use mesh_tree::Tree;
 use std::alloc::Global;
 
-// Adds what a field asks by the trees of its values, and the `not` field beside it by those of its own.
-pub fn push_field<L: Drop>(
-    alloc: Global,
-    parts: &mut List<Tree<L>>,
-    trees: List<Tree<L>>,
-    not_trees: List<Tree<L>>,
-) -> Result<(), Memory>
-    ensures { OnOk result (parts.new ≡ parts.old ++ meaning.field_of trees not_trees) }
-{
-    push_one_of(alloc, parts, trees)?;
-    push_none_of(alloc, parts, not_trees)
-}
-
 // Adds that one of the trees holds, where there are any.
 pub fn push_one_of<L: Drop>(
     alloc: Global,
@@ -36,7 +23,7 @@ pub fn push_one_of<L: Drop>(
 }
 
 // Adds that none of the trees holds, where there are any.
-fn push_none_of<L: Drop>(
+pub fn push_none_of<L: Drop>(
     alloc: Global,
     parts: &mut List<Tree<L>>,
     trees: List<Tree<L>>,

@@ -5,9 +5,10 @@ ghost use Rattle.authz_gen.specs.Conditions.{permission_of, principal_by};
 ghost use Rattle.authz_gen.specs.Rules as meaning;
 
 use crate::conditions::{push_permission, push_principal};
+use crate::fields::trees_of;
 use crate::lists::{all_of, push_one_of};
-use crate::operations::operation_trees;
-use crate::sources::source_trees;
+use crate::operations::Operations;
+use crate::sources::Sources;
 use envoy_types::{PermissionLeaf, PrincipalLeaf};
 use mesh_policy::{Condition, Rule};
 use mesh_text::{List, Memory};
@@ -22,7 +23,7 @@ pub fn permission_tcp(alloc: Global, rule: &Rule) -> Result<Tree<PermissionLeaf>
     requires { AcceptedRule rule.now }
     ensures { IfOk result (λ t. t ≡ meaning.permission_tcp rule.now) }
 {
-    let operations = operation_trees(alloc, &rule.operations)?;
+    let operations = trees_of::<Operations>(alloc, &rule.operations)?;
     let mut parts = List::new(alloc);
     push_one_of(alloc, &mut parts, operations)?;
     push_permissions(alloc, &mut parts, &rule.conditions)?;
@@ -51,7 +52,7 @@ pub fn principal_tcp(alloc: Global, rule: &Rule) -> Result<Tree<PrincipalLeaf>, 
     requires { AcceptedRule rule.now }
     ensures { IfOk result (λ t. t ≡ meaning.principal_tcp rule.now) }
 {
-    let sources = source_trees(alloc, &rule.sources)?;
+    let sources = trees_of::<Sources>(alloc, &rule.sources)?;
     let mut parts = List::new(alloc);
     push_one_of(alloc, &mut parts, sources)?;
     push_principals(alloc, &mut parts, &rule.conditions)?;

@@ -1,10 +1,11 @@
 // Who a connection comes from, as a principal.
-ghost use Rattle.std.specs.Prelude.{◌≡◌, ◌≢◌, ◌++◌, All, [], map, IfOk, OnOk};
+ghost use Rattle.std.specs.Prelude.{◌≡◌, ◌≢◌, ◌++◌, [], map, IfOk, OnOk, ⊤};
 ghost use Rattle.mesh_policy.specs.AcceptedRules.{AcceptedSource};
 ghost use Rattle.authz_gen.specs.Lists.{field_of};
 ghost use Rattle.authz_gen.specs.Sources as meaning;
 
-use crate::lists::{all_of, push_field};
+use crate::fields::{Field, push_field};
+use crate::lists::all_of;
 use envoy_types::PrincipalLeaf;
 use mesh_net::Cidr;
 use mesh_policy::{Pattern, SourceSpec};
@@ -13,18 +14,23 @@ use mesh_tree::Tree;
 use peer_name::{namespace_tree, principal_tree};
 use std::alloc::Global;
 
-pub fn source_trees(
-    alloc: Global,
-    sources: &[SourceSpec],
-) -> Result<List<Tree<PrincipalLeaf>>, Memory>
-    requires { All AcceptedSource sources.now }
-    ensures { IfOk result (λ ts. ts ≡ map meaning.source_tcp sources.now) }
-{
-    let mut trees = List::with_room(alloc, sources.len())?;
-    for source in sources {
-        trees.push(source_tcp(alloc, source)?)?;
+// ---- sources
+
+// The sources of a rule.
+pub struct Sources;
+
+impl Field for Sources {
+    type Value = SourceSpec;
+
+    type Leaf = PrincipalLeaf;
+
+    ghost accepted = { AcceptedSource };
+
+    ghost tree = { meaning.source_tcp };
+
+    fn make(alloc: Global, source: &SourceSpec) -> Result<Tree<PrincipalLeaf>, Memory> {
+        source_tcp(alloc, source)
     }
-    Ok(trees)
 }
 
 // All fields of a source that a connection has.
@@ -35,13 +41,7 @@ fn source_tcp(alloc: Global, source: &SourceSpec) -> Result<Tree<PrincipalLeaf>,
 {
     let mut parts = List::new(alloc);
     push_names(alloc, &mut parts, source)?;
-    push_source_blocks(alloc, &mut parts, &source.ip_blocks, &source.not_ip_blocks)?;
-    push_remote_blocks(
-        alloc,
-        &mut parts,
-        &source.remote_ip_blocks,
-        &source.not_remote_ip_blocks,
-    )?;
+    push_blocks(alloc, &mut parts, source)?;
     all_of(alloc, parts)
 }
 
@@ -56,134 +56,99 @@ fn push_names(
         ++ field_of (map meaning.principal_of source.now.principals) (map meaning.principal_of source.now.not_principals)
         ++ field_of (map meaning.namespace_of source.now.namespaces) (map meaning.namespace_of source.now.not_namespaces)) }
 {
-    push_principals(alloc, parts, &source.principals, &source.not_principals)?;
-    push_namespaces(alloc, parts, &source.namespaces, &source.not_namespaces)
+    push_field::<Principals>(alloc, parts, &source.principals, &source.not_principals)?;
+    push_field::<Namespaces>(alloc, parts, &source.namespaces, &source.not_namespaces)
 }
 
-// ---- principals
-
-// Adds a list of principals, of which one is the peer's, and the negative list beside it.
-pub fn push_principals(
+// Adds those that ask for addresses.
+fn push_blocks(
     alloc: Global,
     parts: &mut List<Tree<PrincipalLeaf>>,
-    values: &[Text],
-    not_values: &[Text],
+    source: &SourceSpec,
 ) -> Result<(), Memory>
-    requires values { All (λ value. value ≢ []) values.now }
-    requires not_values { All (λ value. value ≢ []) not_values.now }
-    ensures { OnOk result (parts.new
-        ≡ parts.old ++ field_of (map meaning.principal_of values.now) (map meaning.principal_of not_values.now)) }
+    ensures { OnOk result (parts.new ≡ parts.old
+        ++ field_of (map meaning.source_block source.now.ip_blocks) (map meaning.source_block source.now.not_ip_blocks)
+        ++ field_of (map meaning.remote_block source.now.remote_ip_blocks) (map meaning.remote_block source.now.not_remote_ip_blocks)) }
 {
-    let trees = principal_trees(alloc, values)?;
-    let not_trees = principal_trees(alloc, not_values)?;
-    push_field(alloc, parts, trees, not_trees)
+    push_field::<SourceBlocks>(alloc, parts, &source.ip_blocks, &source.not_ip_blocks)?;
+    push_field::<RemoteBlocks>(
+        alloc,
+        parts,
+        &source.remote_ip_blocks,
+        &source.not_remote_ip_blocks,
+    )
 }
 
-fn principal_trees(alloc: Global, values: &[Text]) -> Result<List<Tree<PrincipalLeaf>>, Memory>
-    requires { All (λ value. value ≢ []) values.now }
-    ensures { IfOk result (λ ts. ts ≡ map meaning.principal_of values.now) }
-{
-    let mut trees = List::with_room(alloc, values.len())?;
-    for value in values {
-        trees.push(principal_of(alloc, value)?)?;
+// ---- the peer's name
+
+// Principals, of which one is the peer's.
+pub struct Principals;
+
+impl Field for Principals {
+    type Value = Text;
+
+    type Leaf = PrincipalLeaf;
+
+    ghost accepted = { λ value. value ≢ [] };
+
+    ghost tree = { meaning.principal_of };
+
+    fn make(alloc: Global, value: &Text) -> Result<Tree<PrincipalLeaf>, Memory> {
+        let pattern = Pattern::parse(alloc, value)?;
+        principal_tree(alloc, &pattern)
     }
-    Ok(trees)
 }
 
-fn principal_of(alloc: Global, value: &str) -> Result<Tree<PrincipalLeaf>, Memory>
-    requires { value.now ≢ [] }
-    ensures { IfOk result (λ t. t ≡ meaning.principal_of value.now) }
-{
-    let pattern = Pattern::parse(alloc, value)?;
-    principal_tree(alloc, &pattern)
-}
+// Namespaces, of which one is the peer's.
+pub struct Namespaces;
 
-// ---- namespaces
+impl Field for Namespaces {
+    type Value = Text;
 
-// Adds a list of namespaces, of which one is the peer's, and the negative list beside it.
-pub fn push_namespaces(
-    alloc: Global,
-    parts: &mut List<Tree<PrincipalLeaf>>,
-    values: &[Text],
-    not_values: &[Text],
-) -> Result<(), Memory>
-    requires values { All (λ value. value ≢ []) values.now }
-    requires not_values { All (λ value. value ≢ []) not_values.now }
-    ensures { OnOk result (parts.new
-        ≡ parts.old ++ field_of (map meaning.namespace_of values.now) (map meaning.namespace_of not_values.now)) }
-{
-    let trees = namespace_trees(alloc, values)?;
-    let not_trees = namespace_trees(alloc, not_values)?;
-    push_field(alloc, parts, trees, not_trees)
-}
+    type Leaf = PrincipalLeaf;
 
-fn namespace_trees(alloc: Global, values: &[Text]) -> Result<List<Tree<PrincipalLeaf>>, Memory>
-    requires { All (λ value. value ≢ []) values.now }
-    ensures { IfOk result (λ ts. ts ≡ map meaning.namespace_of values.now) }
-{
-    let mut trees = List::with_room(alloc, values.len())?;
-    for value in values {
-        trees.push(namespace_of(alloc, value)?)?;
+    ghost accepted = { λ value. value ≢ [] };
+
+    ghost tree = { meaning.namespace_of };
+
+    fn make(alloc: Global, value: &Text) -> Result<Tree<PrincipalLeaf>, Memory> {
+        let pattern = Pattern::parse(alloc, value)?;
+        namespace_tree(alloc, &pattern)
     }
-    Ok(trees)
-}
-
-fn namespace_of(alloc: Global, value: &str) -> Result<Tree<PrincipalLeaf>, Memory>
-    requires { value.now ≢ [] }
-    ensures { IfOk result (λ t. t ≡ meaning.namespace_of value.now) }
-{
-    let pattern = Pattern::parse(alloc, value)?;
-    namespace_tree(alloc, &pattern)
 }
 
 // ---- addresses
 
-// Adds a list of blocks, in one of which the connection comes from, and the negative list beside it.
-pub fn push_source_blocks(
-    alloc: Global,
-    parts: &mut List<Tree<PrincipalLeaf>>,
-    values: &[Cidr],
-    not_values: &[Cidr],
-) -> Result<(), Memory>
-    ensures { OnOk result (parts.new
-        ≡ parts.old ++ field_of (map meaning.source_block values.now) (map meaning.source_block not_values.now)) }
-{
-    let trees = source_blocks(alloc, values)?;
-    let not_trees = source_blocks(alloc, not_values)?;
-    push_field(alloc, parts, trees, not_trees)
-}
+// Blocks, in one of which the connection comes from.
+pub struct SourceBlocks;
 
-fn source_blocks(alloc: Global, blocks: &[Cidr]) -> Result<List<Tree<PrincipalLeaf>>, Memory>
-    ensures { IfOk result (λ ts. ts ≡ map meaning.source_block blocks.now) }
-{
-    let mut trees = List::with_room(alloc, blocks.len())?;
-    for block in blocks {
-        trees.push(Tree::leaf(PrincipalLeaf::DirectRemoteIp(*block)))?;
+impl Field for SourceBlocks {
+    type Value = Cidr;
+
+    type Leaf = PrincipalLeaf;
+
+    ghost accepted = { λ _. ⊤ };
+
+    ghost tree = { meaning.source_block };
+
+    fn make(_alloc: Global, block: &Cidr) -> Result<Tree<PrincipalLeaf>, Memory> {
+        Ok(Tree::leaf(PrincipalLeaf::DirectRemoteIp(*block)))
     }
-    Ok(trees)
 }
 
-// The same by the client's own address.
-pub fn push_remote_blocks(
-    alloc: Global,
-    parts: &mut List<Tree<PrincipalLeaf>>,
-    values: &[Cidr],
-    not_values: &[Cidr],
-) -> Result<(), Memory>
-    ensures { OnOk result (parts.new
-        ≡ parts.old ++ field_of (map meaning.remote_block values.now) (map meaning.remote_block not_values.now)) }
-{
-    let trees = remote_blocks(alloc, values)?;
-    let not_trees = remote_blocks(alloc, not_values)?;
-    push_field(alloc, parts, trees, not_trees)
-}
+// Blocks, in one of which the client's own address is.
+pub struct RemoteBlocks;
 
-fn remote_blocks(alloc: Global, blocks: &[Cidr]) -> Result<List<Tree<PrincipalLeaf>>, Memory>
-    ensures { IfOk result (λ ts. ts ≡ map meaning.remote_block blocks.now) }
-{
-    let mut trees = List::with_room(alloc, blocks.len())?;
-    for block in blocks {
-        trees.push(Tree::leaf(PrincipalLeaf::RemoteIp(*block)))?;
+impl Field for RemoteBlocks {
+    type Value = Cidr;
+
+    type Leaf = PrincipalLeaf;
+
+    ghost accepted = { λ _. ⊤ };
+
+    ghost tree = { meaning.remote_block };
+
+    fn make(_alloc: Global, block: &Cidr) -> Result<Tree<PrincipalLeaf>, Memory> {
+        Ok(Tree::leaf(PrincipalLeaf::RemoteIp(*block)))
     }
-    Ok(trees)
 }

@@ -1,13 +1,14 @@
 -- The listener that is built of a workload within its limits can be written.
-use Rattle.std.proofs.Common.{◌≡◌, ◌+◌, ◌≤◌, true, IsTrue, List, [], ◌∷◌, ◌++◌, length, map, cond, Result, Ok, Err, IfOk, refl, ◌∙◌, ap}
-use Rattle.std.proofs.Common.{arith, length-append}
+use Rattle.std.proofs.Common.{◌≡◌, ℕ, ◌+◌, ◌≤◌, true, false, ◌||◌, nat_lt, IsTrue, List, [], ◌∷◌, ◌++◌, length, map, cond}
+use Rattle.std.proofs.Common.{Result, Ok, Err, IfOk, refl, ◌∙◌, ap, arith, length-append}
 use Rattle.std.proofs.lemmas.List.{map-append}
 use Rattle.std.proofs.Math.Dec.{eqb-suc-zero}
-use Rattle.std.proofs.lemmas.Bool.{and_from, le-leb}
+use Rattle.std.proofs.lemmas.Bool.{and_from, le-leb, le-ltb, ltb-false, or_from, or_parts}
 use Rattle.std.proofs.lemmas.List.Folds.{list_all-append}
 use Rattle.std.specs.List.{list_all}
-use Rattle.mesh_policy.specs.Sizes.{Size, policy_size, sum_of}
+use Rattle.mesh_policy.specs.Sizes.{Size, is_over_limit, policy_size, size_of, sum_of}
 use Rattle.mesh_policy.specs.Workload.{Workload}
+use Rattle.mesh_policy.specs.declared.jwt.JwtRule.{JwtRule}
 use Rattle.mesh_policy.specs.declared.policy.Action.{Action}
 use Rattle.mesh_policy.specs.declared.policy.Action.TheVariants.{Allow, Deny, Audit}
 use Rattle.mesh_policy.specs.declared.policy.AuthorizationPolicy.{AuthorizationPolicy}
@@ -18,8 +19,8 @@ use Rattle.envoy_types.specs.ListenerForms.{is_printable}
 use Rattle.envoy_types.specs.declared.chains.Listener.{Listener}
 use Rattle.envoy_types.specs.declared.chains.NetworkFilter.{NetworkFilter}
 use Rattle.envoy_types.specs.declared.chains.NetworkFilter.TheVariants as filter
+use Rattle.authz_gen.specs.Laws.{TcpFiltersArePrintable}
 use Rattle.authz_gen.specs.Policies.{ArePoliciesOf, tcp_rbac}
-use Rattle.authz_gen.proofs.Printable.{IsSmall, filter-fits, small-part}
 use Rattle.chain_build.specs.Filters.{filters_for, tcp_filters}
 use Rattle.chain_build.specs.Listener.{built, chains_with}
 use Rattle.chain_build.proofs.Enforced.{allow-policies, audit-policies, deny-policies}
@@ -27,42 +28,78 @@ use Rattle.chain_build.proofs.Printable.{all-count, all-distinct, all-fit}
 
 -- ---- the policies of each action keep the limits that all keep together
 
-values-append : (xs ys : List Size) → (sum_of (xs ++ ys)).values ≡ (sum_of xs).values + (sum_of ys).values
-values-append [] ys = omega arith
-values-append (x ∷ xs) ys = let rest = values-append xs ys in omega (arith, rest)
+-- within the limits of a workload
+record IsWithin (size : Size) : Type 0 where
+  pub values : size.values ≤ 2048
+  pub entries : size.entries ≤ 1024
+  pub bytes : size.bytes ≤ 65536
 
-entries-append : (xs ys : List Size) → (sum_of (xs ++ ys)).entries ≡ (sum_of xs).entries + (sum_of ys).entries
-entries-append [] ys = omega arith
-entries-append (x ∷ xs) ys = let rest = entries-append xs ys in omega (arith, rest)
+is-within : (size : Size) → is_over_limit size ≡ false → IsWithin size
+is-within size h =
+    let parts = or_parts (nat_lt 2048 size.values || nat_lt 1024 size.entries) (nat_lt 65536 size.bytes) h in
+    let counts = or_parts (nat_lt 2048 size.values) (nat_lt 1024 size.entries) parts.0 in
+    record {
+      values = ltb-false 2048 size.values counts.0;
+      entries = ltb-false 1024 size.entries counts.1;
+      bytes = ltb-false 65536 size.bytes parts.1;
+    }
+
+not-over : (size : Size) → IsWithin size → is_over_limit size ≡ false
+not-over size h = or_from _ _
+    (or_from _ _ (le-ltb 2048 size.values h.values) (le-ltb 1024 size.entries h.entries)) (le-ltb 65536 size.bytes h.bytes)
 
 abbrev size : List AuthorizationPolicy → Size
 size policies = sum_of (map policy_size policies)
 
-small-parts : (xs ys : List AuthorizationPolicy) → IsSmall (size (xs ++ ys)) → IsSmall (size xs) × IsSmall (size ys)
-small-parts xs ys small =
-    let parts : map policy_size (xs ++ ys) ≡ map policy_size xs ++ map policy_size ys = map-append policy_size xs ys in
+-- a count of sizes, which adds up
+module _ (count : Size → ℕ) (none : count (sum_of []) ≡ 0)
+    (one : (part : Size) (parts : List Size) → count (sum_of (part ∷ parts)) ≡ count part + count (sum_of parts)) where
+  sum-append : (xs ys : List Size) → count (sum_of (xs ++ ys)) ≡ count (sum_of xs) + count (sum_of ys)
+  sum-append [] ys = omega (arith, none)
+  sum-append (x ∷ xs) ys = let rest = sum-append xs ys in omega (arith, rest, one x (xs ++ ys), one x xs)
+
+  size-append : (xs ys : List AuthorizationPolicy) → count (size (xs ++ ys)) ≡ count (size xs) + count (size ys)
+  size-append xs ys =
+      ap (λ ss. count (sum_of ss)) (map-append policy_size xs ys) ∙ sum-append (map policy_size xs) (map policy_size ys)
+
+within-parts : (xs ys : List AuthorizationPolicy) → IsWithin (size (xs ++ ys)) → IsWithin (size xs) × IsWithin (size ys)
+within-parts xs ys h =
     let values : (size (xs ++ ys)).values ≡ (size xs).values + (size ys).values =
-    ap (λ ss. (sum_of ss).values) parts ∙ values-append (map policy_size xs) (map policy_size ys) in
+    size-append (λ s. s.values) refl (λ x xs. refl) xs ys in
     let entries : (size (xs ++ ys)).entries ≡ (size xs).entries + (size ys).entries =
-    ap (λ ss. (sum_of ss).entries) parts ∙ entries-append (map policy_size xs) (map policy_size ys) in (
-      record { values = omega (arith, small.values, values); entries = omega (arith, small.entries, entries) },
-      record { values = omega (arith, small.values, values); entries = omega (arith, small.entries, entries) },
+    size-append (λ s. s.entries) refl (λ x xs. refl) xs ys in
+    let bytes : (size (xs ++ ys)).bytes ≡ (size xs).bytes + (size ys).bytes =
+    size-append (λ s. s.bytes) refl (λ x xs. refl) xs ys in (
+      record { values = omega (arith, h.values, values); entries = omega (arith, h.entries, entries); bytes = omega (arith, h.bytes, bytes) },
+      record { values = omega (arith, h.values, values); entries = omega (arith, h.entries, entries); bytes = omega (arith, h.bytes, bytes) },
     )
+
+-- with rules of tokens or without them
+without-tokens : (policies : List AuthorizationPolicy) (rules : List JwtRule) → IsWithin (size_of policies rules) → IsWithin (size policies)
+unfolding size_of
+without-tokens policies rules h =
+    record { values = omega (arith, h.values); entries = omega (arith, h.entries); bytes = omega (arith, h.bytes) }
+
+no-tokens : (policies : List AuthorizationPolicy) → IsWithin (size policies) → is_over_limit (size_of policies []) ≡ false
+unfolding size_of
+no-tokens policies h = not-over (size_of policies [])
+    (record { values = omega (arith, h.values); entries = omega (arith, h.entries); bytes = omega (arith, h.bytes) })
 
 -- ---- filters
 
 abbrev Fits : List NetworkFilter → Type 0
 Fits filters = (length filters ≤ 1) × (list_all network_filter_is_printable filters ≡ true)
 
-filter-list : (action : Action) (policies : List AuthorizationPolicy) → ArePoliciesOf action policies → IsSmall (size policies)
-    → Fits (filters_for action policies)
+filter-list : TcpFiltersArePrintable → (action : Action) (policies : List AuthorizationPolicy) → ArePoliciesOf action policies
+    → IsWithin (size policies) → Fits (filters_for action policies)
 unfolding network_filter_is_printable
-filter-list action [] h small = (omega arith, refl)
-filter-list action (p ∷ ps) h small =
+filter-list printable action [] h within = (omega arith, refl)
+filter-list printable action (p ∷ ps) h within =
     let one : filters_for action (p ∷ ps) ≡ filter.Rbac (tcp_rbac action (p ∷ ps)) ∷ [] =
     ap (λ b. cond b [] (filter.Rbac (tcp_rbac action (p ∷ ps)) ∷ [])) (eqb-suc-zero (length ps)) in
     let count : length (filters_for action (p ∷ ps)) ≡ 1 = ap length one in
-    (omega (arith, count), ap (list_all network_filter_is_printable) one ∙ and_from _ _ (filter-fits action (p ∷ ps) h small) refl)
+    let fits = printable action (p ∷ ps) h (no-tokens (p ∷ ps) within) in
+    (omega (arith, count), ap (list_all network_filter_is_printable) one ∙ and_from _ _ fits refl)
 
 joined-fit : (xs ys zs : List NetworkFilter) → Fits xs → Fits ys → Fits zs → filters_are_printable network_filter_is_printable
     (xs ++ ys ++ zs) ≡ true
@@ -72,32 +109,33 @@ joined-fit xs ys zs hx hy hz =
     (list_all-append network_filter_is_printable (xs ++ ys) zs
     ∙ and_from _ _ (list_all-append network_filter_is_printable xs ys ∙ and_from _ _ hx.1 hy.1) hz.1)
 
-filters-fit : (workload : Workload) → KeepsLimits workload
+filters-fit : TcpFiltersArePrintable → (workload : Workload) → KeepsLimits workload
     → filters_are_printable network_filter_is_printable (tcp_filters workload) ≡ true
 unfolding tcp_filters
-filters-fit workload limits =
-    let all = small-part (workload.allow ++ workload.deny ++ workload.audit ++ workload.custom) workload.jwt_rules limits.size in
-    let three = (small-parts (workload.allow ++ workload.deny ++ workload.audit) workload.custom all).0 in
-    let two = small-parts (workload.allow ++ workload.deny) workload.audit three in
-    let one = small-parts workload.allow workload.deny two.0 in
+filters-fit printable workload limits =
+    let policies = workload.allow ++ workload.deny ++ workload.audit ++ workload.custom in
+    let all = without-tokens policies workload.jwt_rules (is-within (size_of policies workload.jwt_rules) limits.size) in
+    let three = (within-parts (workload.allow ++ workload.deny ++ workload.audit) workload.custom all).0 in
+    let two = within-parts (workload.allow ++ workload.deny) workload.audit three in
+    let one = within-parts workload.allow workload.deny two.0 in
     joined-fit (filters_for Audit workload.audit) (filters_for Deny workload.deny) (filters_for Allow workload.allow)
-    (filter-list Audit workload.audit (audit-policies workload limits workload.audit refl) two.1)
-    (filter-list Deny workload.deny (deny-policies workload limits workload.deny refl) one.1)
-    (filter-list Allow workload.allow (allow-policies workload limits workload.allow refl) one.0)
+    (filter-list printable Audit workload.audit (audit-policies workload limits workload.audit refl) two.1)
+    (filter-list printable Deny workload.deny (deny-policies workload limits workload.deny refl) one.1)
+    (filter-list printable Allow workload.allow (allow-policies workload limits workload.allow refl) one.0)
 
 -- ---- the listener
 
-pub built-printable : (workload : Workload) → KeepsLimits workload → is_printable (built workload) ≡ true
+pub built-printable : TcpFiltersArePrintable → (workload : Workload) → KeepsLimits workload → is_printable (built workload) ≡ true
 unfolding is_printable built chains_with
-built-printable workload limits =
+built-printable printable workload limits =
     let filters = tcp_filters workload in
     let count = all-count filters workload.other_mode workload.ports limits.ports in
     and_from _ _ (and_from _ _ (and_from _ _ refl (and_from _ _ (le-leb 1 _ count.0) (le-leb _ 2048 (omega (arith, count.1)))))
-    (all-fit filters (filters-fit workload limits) workload.other_mode workload.ports limits.numbers))
+    (all-fit filters (filters-fit printable workload limits) workload.other_mode workload.ports limits.numbers))
     (all-distinct filters workload.other_mode workload.ports limits.rising)
 
 -- where there was memory
-pub can-be-written : (workload : Workload) → KeepsLimits workload
+pub can-be-written : TcpFiltersArePrintable → (workload : Workload) → KeepsLimits workload
     → (r : Result Listener Memory) → IfOk r (λ listener. listener ≡ built workload) → IfOk r (λ listener. IsTrue (is_printable listener))
-can-be-written workload limits (Ok listener) e = ap is_printable e ∙ built-printable workload limits
-can-be-written workload limits (Err e) shape = tt
+can-be-written printable workload limits (Ok listener) e = ap is_printable e ∙ built-printable printable workload limits
+can-be-written printable workload limits (Err e) shape = tt

@@ -21,12 +21,12 @@ use Rattle.envoy_types.specs.declared.chains.NetworkFilter.{NetworkFilter}
 use Rattle.envoy_types.specs.declared.chains.NetworkFilter.TheVariants as filter
 use Rattle.mesh_select.specs.Workload.{KeepsLimits}
 use Rattle.peer_name.specs.Holds.{HasNamedPeer}
+use Rattle.authz_gen.specs.Laws.{TcpFiltersDecide}
 use Rattle.authz_gen.specs.Policies.{rbac_action, tcp_rbac}
-use Rattle.authz_gen.proofs.Decided.{decides}
 use Rattle.chain_build.specs.Buildable.{IsBuildable}
 use Rattle.chain_build.specs.Filters.{filters_for, tcp_filters}
 
-module _ (case : Case) (seen : Seen) (named : HasNamedPeer case) where
+module _ (decide : TcpFiltersDecide) (case : Case) (seen : Seen) (named : HasNamedPeer case) where
   -- a state in which no shadow rule has told a name
   abbrev marked : Bool → RunState
   marked audited = record { seen = seen; audited = audited; names = [] }
@@ -49,7 +49,7 @@ module _ (case : Case) (seen : Seen) (named : HasNamedPeer case) where
       (action_marks (rbac_action action) (holds policies))
   unfolding tcp_rbac
   filter-decides action policies rest audited h =
-      let d = decides action policies h in
+      let d = decide action policies h in
       ap₂ (after action policies rest audited) (d.passes case seen named) (d.marks case seen named)
 
   -- ---- the filters of an action, where a policy applies

@@ -1,9 +1,9 @@
 -- The permission and the principal of a rule are written as values that are nested little and hold no float.
-use Rattle.std.proofs.Common.{◌≡◌, ℕ, suc, ◌+◌, nat_eq, Bool, true, false, List, [], ◌∷◌, ◌++◌, drop, length, map, codes, cond}
+use Rattle.std.proofs.Common.{◌≡◌, ℕ, suc, nat_eq, Bool, true, false, List, [], ◌∷◌, ◌++◌, drop, length, map, codes, cond}
 use Rattle.std.proofs.Common.{Option, None, Some, refl, ◌∙◌}
 use Rattle.std.proofs.lemmas.Bool.{and_from}
 use Rattle.std.proofs.lemmas.List.Folds.{list_all-append}
-use Rattle.std.specs.List.{flat_map, list_all, starts_with}
+use Rattle.std.specs.List.{flat_map, starts_with}
 use Rattle.std.specs.Option.{option_map}
 use Rattle.serde_json.specs.Data.{string}
 use Rattle.mesh_net.specs.Written.{ip_text}
@@ -33,7 +33,6 @@ use Rattle.envoy_types.specs.Strings.{matcher_of}
 use Rattle.envoy_types.specs.TreeForms.{TreeForm}
 use Rattle.envoy_types.specs.WrittenFields.{field, number_written, optional_field, truth_field}
 use Rattle.envoy_types.specs.declared.keys.TheConstants.{ADDRESS_PREFIX, IGNORE_CASE, PREFIX_LEN, PRINCIPAL_NAME}
-use Rattle.envoy_types.specs.declared.permission.PermissionLeaf.{PermissionLeaf}
 use Rattle.envoy_types.specs.declared.permission.PermissionLeaf.TheVariants.{DestinationIp as ToAddress, DestinationPort, ServerName}
 use Rattle.envoy_types.specs.declared.principal.PrincipalLeaf.{PrincipalLeaf}
 use Rattle.envoy_types.specs.declared.principal.PrincipalLeaf.TheVariants.{Authenticated, DirectRemoteIp, RemoteIp as Remote}

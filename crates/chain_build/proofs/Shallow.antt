@@ -1,5 +1,5 @@
 -- The value that is written of the listener that is built is nested little, and holds no float.
-use Rattle.std.proofs.Common.{◌≡◌, ℕ, suc, ◌≤◌, Bool, true, false, List, [], ◌∷◌, ◌++◌, codes, filter, length, map, refl}
+use Rattle.std.proofs.Common.{◌≡◌, ℕ, ◌≤◌, Bool, true, false, List, [], ◌∷◌, ◌++◌, codes, filter, length, map, refl}
 use Rattle.std.proofs.Common.{Option, None, Some}
 use Rattle.std.proofs.Common.{◌∙◌, Result, Ok, Err, IfOk, ap, subst, sym}
 use Rattle.std.proofs.Math.Dec.{eqb-suc-zero}
@@ -10,6 +10,7 @@ use Rattle.std.specs.Option.{option_map}
 use Rattle.serde_json.specs.Data.{string, depth}
 use Rattle.serde_json.specs.Written.{has_float}
 use Rattle.mesh_text.specs.declared.memory.Memory.{Memory}
+use Rattle.mesh_policy.proofs.Listed.{list_all-in_order}
 use Rattle.mesh_policy.specs.Connection.{mesh_names}
 use Rattle.mesh_policy.specs.Workload.{ListedPort, Workload}
 use Rattle.mesh_policy.specs.declared.peer.Mode.{Mode}
@@ -45,7 +46,6 @@ use Rattle.envoy_types.specs.declared.keys.TheConstants.{TRAFFIC_DIRECTION, TRAN
 use Rattle.envoy_types.specs.declared.names.TheConstants.{NETWORK_RBAC_NAME, NETWORK_RBAC_TYPE, TCP_PROXY_NAME, TCP_PROXY_TYPE}
 use Rattle.authz_gen.specs.Rules.{permission_tcp, principal_tcp}
 use Rattle.authz_gen.specs.Policies.{has_policy, name_before, policies_tcp, rbac_action, rule_policies_tcp, rule_policy_tcp, tcp_rbac}
-use Rattle.authz_gen.proofs.InOrder.{all-in_order}
 use Rattle.chain_build.specs.Chains.{cluster_of, tcp_chain, tcp_chains}
 use Rattle.chain_build.specs.Filters.{filters_for, tcp_filters}
 use Rattle.chain_build.specs.Listener.{built, chains_of_port, chains_with}
@@ -82,7 +82,7 @@ each-policy (policy ∷ policies) =
 policies-small : (policies : List AuthorizationPolicy) → policies_small (policies_tcp policies) ≡ true
 unfolding policies_tcp
 policies-small policies =
-    all-in_order name_before (λ made. is_small 118 (policy_written made)) (flat_map rule_policies_tcp policies) ∙ each-policy policies
+    list_all-in_order name_before (λ made. is_small 118 (policy_written made)) (flat_map rule_policies_tcp policies) ∙ each-policy policies
 
 -- ---- filters
 

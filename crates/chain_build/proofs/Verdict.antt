@@ -19,6 +19,7 @@ use Rattle.mesh_text.specs.declared.memory.Memory.{Memory}
 use Rattle.envoy_types.specs.declared.chains.Listener.{Listener}
 use Rattle.envoy_types.specs.ListenerVerdict.{envoy_verdict, verdict_by}
 use Rattle.peer_name.specs.Holds.{HasNamedPeer}
+use Rattle.authz_gen.specs.Laws.{TcpFiltersDecide}
 use Rattle.chain_build.specs.Buildable.{IsBuildable}
 use Rattle.chain_build.specs.Chains.{tcp_chain}
 use Rattle.chain_build.specs.Filters.{tcp_filters}
@@ -55,7 +56,8 @@ with_tls c tls = record {
   answers = c.answers;
 }
 
-module _ (workload : Workload) (limits : KeepsLimits workload) (h : IsBuildable workload) (port : Option ℕ) (c : Case) where
+module _ (decide : TcpFiltersDecide) (workload : Workload) (limits : KeepsLimits workload) (h : IsBuildable workload)
+    (port : Option ℕ) (c : Case) where
   -- what the policies say of the connection by its mode
   abbrev said : Mode → Option Tls → Verdict
   said mode tls = mesh.verdict_by workload (with_tls c tls)
@@ -75,43 +77,43 @@ module _ (workload : Workload) (limits : KeepsLimits workload) (h : IsBuildable 
   strict-agrees : (tls : Tls) (shown : Bool) → Named (Some tls) → is_some tls.peer ≡ shown
       → given Strict (Some tls) ≡ said Strict (Some tls)
   unfolding tcp_chain
-  strict-agrees tls true named e = rw e (filters-decide (with_tls c (Some tls)) (seen_with true) named workload limits h)
+  strict-agrees tls true named e = rw e (filters-decide decide (with_tls c (Some tls)) (seen_with true) named workload limits h)
   strict-agrees tls false named e = rw e refl
 
   permissive-agrees : (tls : Tls) (offers shown : Bool) → Named (Some tls) → offers_mesh_name tls ≡ offers → is_some tls.peer ≡ shown
       → given Permissive (Some tls) ≡ said Permissive (Some tls)
   unfolding tcp_chain
   permissive-agrees tls true true named o e =
-      rw (o, e) (filters-decide (with_tls c (Some tls)) (seen_with true) named workload limits h)
+      rw (o, e) (filters-decide decide (with_tls c (Some tls)) (seen_with true) named workload limits h)
   permissive-agrees tls true false named o e = rw (o, e) refl
   permissive-agrees tls false shown named o e =
-      rw o (filters-decide (with_tls c (Some tls)) (seen_with false) named workload limits h)
+      rw o (filters-decide decide (with_tls c (Some tls)) (seen_with false) named workload limits h)
 
   agrees-at : (mode : Mode) (tls : Option Tls) → Named tls → given mode tls ≡ said mode tls
   unfolding tcp_chain
   agrees-at Strict None named = refl
   agrees-at Strict (Some tls) named = strict-agrees tls (is_some tls.peer) named refl
-  agrees-at Permissive None named = filters-decide (with_tls c None) (seen_with false) named workload limits h
+  agrees-at Permissive None named = filters-decide decide (with_tls c None) (seen_with false) named workload limits h
   agrees-at Permissive (Some tls) named = permissive-agrees tls (offers_mesh_name tls) (is_some tls.peer) named refl refl
-  agrees-at Disable None named = filters-decide (with_tls c None) (seen_with false) named workload limits h
-  agrees-at Disable (Some tls) named = filters-decide (with_tls c (Some tls)) (seen_with false) named workload limits h
+  agrees-at Disable None named = filters-decide decide (with_tls c None) (seen_with false) named workload limits h
+  agrees-at Disable (Some tls) named = filters-decide decide (with_tls c (Some tls)) (seen_with false) named workload limits h
 
 -- outcome and audit mark
-pub agree : (workload : Workload) → KeepsLimits workload → IsBuildable workload
+pub agree : TcpFiltersDecide → (workload : Workload) → KeepsLimits workload → IsBuildable workload
     → (case : Case) → HasNamedPeer case → envoy_verdict (built workload) case ≡ mesh.verdict_of workload case
 unfolding envoy_verdict mesh.verdict_of mesh.arrival
-agree workload limits h case named =
+agree decide workload limits h case named =
     ap (λ chain. verdict_by chain case) (chosen-chain workload case limits.rising)
-    ∙ agrees-at workload limits h (number_at workload case.port) case (mode_of workload case.port) case.tls named
+    ∙ agrees-at decide workload limits h (number_at workload case.port) case (mode_of workload case.port) case.tls named
     ∙ ap (λ protocol. mesh.verdict_by workload case
     (mesh.arrival_on workload case protocol (mesh.known_peer protocol (passage (mode_of workload case.port) case.tls))))
     (sym (speaks-tcp workload h case.port))
 
 -- where there was memory
-pub agrees : (workload : Workload) → KeepsLimits workload → IsBuildable workload
+pub agrees : TcpFiltersDecide → (workload : Workload) → KeepsLimits workload → IsBuildable workload
     → (r : Result Listener Memory) → IfOk r (λ listener. listener ≡ built workload)
     → IfOk r (λ listener. (case : Case) → WellFormedCase case workload.jwt_rules
     → envoy_verdict listener case ≡ mesh.verdict_of workload case)
-agrees workload limits h (Ok listener) e =
-    λ case formed. ap (λ l. envoy_verdict l case) e ∙ agree workload limits h case formed.peer
-agrees workload limits h (Err e) shape = tt
+agrees decide workload limits h (Ok listener) e =
+    λ case formed. ap (λ l. envoy_verdict l case) e ∙ agree decide workload limits h case formed.peer
+agrees decide workload limits h (Err e) shape = tt

@@ -14,6 +14,7 @@ ghost use Rattle.chain_build.specs.Filters.{tcp_filters};
 ghost use Rattle.chain_build.specs.Listener as meaning;
 
 use crate::chains::push_chains;
+use authz_gen::tcp_filters_enforce;
 use envoy_types::{FilterChain, Listener};
 use mesh_select::Workload;
 use mesh_text::{List, Memory, Text};
@@ -32,6 +33,7 @@ pub fn build(alloc: Global, w: &Workload) -> Result<Listener, Memory>
         (case : Case) → WellFormedCase case w.now.jwt_rules → envoy_verdict listener case ≡ verdict_of w.now case) }
 {
     w.limits();
+    tcp_filters_enforce();
     built(alloc, w)
 }
 

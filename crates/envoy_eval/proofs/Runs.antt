@@ -7,8 +7,8 @@ use Rattle.mesh_policy.specs.Attributes.{Seen}
 use Rattle.mesh_policy.specs.declared.case.Case.{Case}
 use Rattle.mesh_policy.specs.declared.token_verdict.ClaimField.{ClaimField}
 use Rattle.envoy_types.specs.Jwt.{Authentication, claims_by, required, requirement_holds}
-use Rattle.envoy_types.specs.Run.{Decision, Names, RunState, Step, goes_on, refuses, run_filters, run_jwt, run_required, then_run}
-use Rattle.envoy_types.specs.Run.{unauthenticated, with_claims}
+use Rattle.envoy_types.specs.Run.{Decision, Names, RunState, Step, goes_on, name_of, refuses, run_filters, run_jwt, run_required}
+use Rattle.envoy_types.specs.Run.{then_run, unauthenticated, with_claims}
 use Rattle.envoy_types.specs.State.{seen_of}
 use Rattle.envoy_types.specs.declared.jwt.Requirement.{Requirement}
 use Rattle.envoy_eval.specs.Hits.{first_hits, no_hits}
@@ -120,6 +120,22 @@ module _ {F : Type 0} (run : F → RunState → Step) where
   after-last filters left filter state within some is =
       let next : left ≡ left - 1 + 1 = omega arith in
       ap (λ n. after run (take n filters) state) next ∙ after-one filters (left - 1) filter state (omega arith) is
+
+  -- A filter is looked at from behind, once for what it is and once for the name that it tells: what is seen before it, and the name.
+  pub looked-back : (filters : List F) (left : ℕ) (start : RunState) → left ≤ length filters → 0 < left → (first again : F)
+      → first ≡ get_or filters (left - 1) first → again ≡ get_or filters (left - 1) again → (does does-again : RunState → Step)
+      → ((before : RunState) → run first before ≡ does before) → ((before : RunState) → run again before ≡ does-again before)
+      → ((before : RunState) → (does before).state.seen ≡ before.seen) → (key : List ℕ) (seen : Seen) (name : Option (List ℕ))
+      → seen ≡ (after run (take left filters) start).seen → name ≡ name_of key (after run (take left filters) start).names
+      → let before = after run (take (left - 1) filters) start in
+      (seen ≡ before.seen) × (name ≡ name_of key (does-again before).state.names)
+  looked-back filters left start within some first again at at-again does does-again runs runs-again keeps key seen name e f =
+      let before = after run (take (left - 1) filters) start in (
+        e ∙ ap (λ (s : RunState). s.seen) (after-last filters left first start within some at)
+            ∙ ap (λ (step : Step). step.state.seen) (runs before) ∙ keeps before,
+        f ∙ ap (λ (s : RunState). name_of key s.names) (after-last filters left again start within some at-again)
+            ∙ ap (λ (step : Step). name_of key step.state.names) (runs-again before),
+      )
 
   -- a filter goes on
   then-on : (step : Step) (next : RunState → Step) → is_going step.decision ≡ true

@@ -1,24 +1,16 @@
 -- What the rules of the worked traces hold for.
-use Rattle.std.proofs.Common.{◌≡◌, ℕ, Bool, true, List, [], ◌∷◌, Some, refl, ◌∙◌}
+use Rattle.std.proofs.Common.{◌≡◌, ℕ, List, [], ◌∷◌, Some, refl}
 use Rattle.mesh_policy.specs.Attributes.{Seen}
 use Rattle.mesh_policy.specs.declared.case.Case.{Case}
-use Rattle.mesh_tree.specs.Judge.{node_holds, tree_holds}
 use Rattle.mesh_tree.specs.Tree.{tree_of}
-use Rattle.mesh_tree.specs.declared.tree.Node.{fold_out-Node, out-Node}
 use Rattle.mesh_tree.specs.declared.tree.Node.TheVariants.{Any}
-use Rattle.mesh_tree.specs.declared.tree.Tree.{fold-roll-Tree}
+use Rattle.mesh_tree.proofs.JudgeLemmas.{holds-any}
 use Rattle.envoy_types.specs.Access.{Rules, effective}
 use Rattle.envoy_types.specs.Permission as permission
 use Rattle.envoy_types.specs.Principal as principal
 use Rattle.envoy_types.specs.declared.access.RbacAction.{RbacAction}
 use Rattle.envoy_types.specs.declared.permission.PermissionLeaf.{PermissionLeaf}
 use Rattle.envoy_types.specs.declared.principal.PrincipalLeaf.{PrincipalLeaf}
-
-holds-any : {L : Type 0} (p : L → Bool) → tree_holds p (tree_of Any) ≡ true
-unfolding out-Node denote.Hole.Carrier.out
-holds-any {L} p =
-    fold-roll-Tree L Bool Bool (node_holds p) (λ t. t.node) (record { node = Any })
-    ∙ fold_out-Node L Bool Bool (node_holds p) (λ t. t.node) Any
 
 -- rules of one policy, for everything
 abbrev pub rules_named : List ℕ → RbacAction → Rules

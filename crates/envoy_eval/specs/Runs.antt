@@ -29,7 +29,8 @@ unless_refused goes_on hits = hits
 unless_refused unauthenticated hits = no_hits
 unless_refused refuses hits = no_hits
 
--- The hits of the filters that ran, which are counted from a number. A filter that refuses ran too. The first hit of each stage counts.
+-- What the filters that were asked have hit, by the number of each: every one up to the first that doesn't let pass, and that
+-- one. Where two of a stage hit, the earlier one is told.
 abbrev pub run_hits : {F : Type 0} → (F → RunState → Step) → (ℕ → F → Seen → StageHits) → ℕ → List F → RunState → StageHits
 run_hits run hits at [] state = no_hits
 run_hits run hits at (filter ∷ filters) state =

@@ -1,12 +1,12 @@
 #!/usr/bin/env python3
-"""Processor minutes of `rt ci`, crate by crate: its proof, its tests, its must-fail edits.
+"""Processor minutes of `rt ci`, crate by crate: its proof, its tests, its must-fail edits and the proof that they begin with.
 
     python3 bench/gate.py [WORD..]
 
 Runs `rt ci WORD..` at the top of the repository (`--anew` proves all from nothing), looks at its processes twice a
-second, and prints what `rt ci` prints and then a table by crate. The exit status is that of `rt ci`. A process
-counts for the crate that it names, as an edit where an edit of that crate is tried. What `rt ci` itself takes, and the
-compilers of LLVM, stand in a row of their own. Standard library only; Linux.
+second, and prints what `rt ci` prints, a table by crate, and the edits that took longest. The exit status is that of
+`rt ci`. A process counts for the crate that it names. What `rt ci` itself takes, and the compilers of LLVM, stand in a row of
+their own. Standard library only; Linux.
 """
 import os
 import re
@@ -16,6 +16,10 @@ import time
 
 TICKS = os.sysconf("SC_CLK_TCK")
 CRATE = re.compile(r"--crate-name\0([a-z0-9_]+)\0")
+# what a check of edits begins with: what the crate as it stands proved, or the number of an edit in the order of names
+OVER = re.compile(r"--incremental\0[^\0]*/(seed|\d+)\0")
+KINDS = ("proof", "tests", "base", "edits")
+LONG = 15
 
 
 def read(path):
@@ -50,7 +54,7 @@ def below(root, found):
 
 
 def work_of(pid):
-    """The crate and the kind of work of a process, or None for both."""
+    """The crate of a process, the kind of its work, and the number of the edit that it tries; or None."""
     words = read(f"/proc/{pid}/cmdline")
     crate = CRATE.search(words)
     if not crate:
@@ -59,9 +63,18 @@ def work_of(pid):
         here = os.readlink(f"/proc/{pid}/cwd")
     except OSError:
         here = ""
-    if "\0--test\0" in words:
-        return crate.group(1), "tests"
-    return crate.group(1), "edits" if "edit" in here or "rt-edit" in words else "proof"
+    over = OVER.search(words)
+    if over and over.group(1) == "seed":
+        return crate.group(1), "base", None
+    if over or "edit" in here:
+        return crate.group(1), "edits", int(over.group(1)) if over else None
+    return crate.group(1), "tests" if "\0--test\0" in words else "proof", None
+
+
+def name_of(crate, number):
+    """The name of an edit, by its number in the order of names."""
+    names = sorted(name for name in os.listdir(f"crates/{crate}/must-fail") if name.endswith(".edit"))
+    return names[number] if number < len(names) else str(number)
 
 
 def main():
@@ -75,14 +88,20 @@ def main():
                 whose[key] = whose.get(key) or work_of(pid)
                 taken[key] = max(taken.get(key, 0), found[pid][2])
         time.sleep(0.5)
-    minutes = {}
+    minutes, tried = {}, {}
     for key, seconds in taken.items():
-        crate, kind = whose.get(key) or ("(rt, compilers)", "proof")
-        minutes.setdefault(crate, {"proof": 0, "tests": 0, "edits": 0})[kind] += seconds / 60
-    print("\n| Crate | Proof | Tests | Edits | All |\n|---|---|---|---|---|")
-    rows = [*sorted(minutes.items()), ("all", {kind: sum(it[kind] for it in minutes.values()) for kind in ("proof", "tests", "edits")})]
+        crate, kind, number = whose.get(key) or ("(rt, compilers)", "proof", None)
+        minutes.setdefault(crate, dict.fromkeys(KINDS, 0))[kind] += seconds / 60
+        if number is not None:
+            tried[crate, number] = tried.get((crate, number), 0) + seconds
+    print("\n| Crate | Proof | Tests | Edits' base | Edits | All |\n|---|---|---|---|---|---|")
+    rows = [*sorted(minutes.items()), ("all", {kind: sum(it[kind] for it in minutes.values()) for kind in KINDS})]
     for crate, row in rows:
-        print(f"| {crate} | {row['proof']:.1f} | {row['tests']:.1f} | {row['edits']:.1f} | {sum(row.values()):.1f} |")
+        print(f"| {crate} | " + " | ".join(f"{row[kind]:.1f}" for kind in KINDS) + f" | {sum(row.values()):.1f} |")
+    long = sorted(((seconds, crate, number) for (crate, number), seconds in tried.items() if seconds > LONG), reverse=True)
+    print(f"\nedits over {LONG} seconds: {len(long)} of {len(tried)}")
+    for seconds, crate, number in long:
+        print(f"  {seconds:.0f} {crate}/{name_of(crate, number)}")
     print(f"\n{(time.monotonic() - began) / 60:.1f} minutes by the clock")
     return run.returncode
 

@@ -13,9 +13,10 @@ use Rattle.mesh_policy.specs.Explanation.{action_front, rule_name}
 use Rattle.mesh_policy.specs.declared.policy.Action.{Action}
 use Rattle.mesh_policy.specs.declared.policy.AuthorizationPolicy.{AuthorizationPolicy}
 use Rattle.mesh_policy.specs.declared.policy.Rule.{Rule}
+use Rattle.mesh_policy.specs.declared.service.Protocol.{Protocol}
 use Rattle.envoy_types.specs.Order.{names_rise}
 use Rattle.envoy_types.specs.declared.access.RbacPolicy.{RbacPolicy}
-use Rattle.authz_gen.specs.Policies.{ArePoliciesOf, has_policy, policies_tcp, rule_policies_tcp, rule_policy_tcp}
+use Rattle.authz_gen.specs.Policies.{ArePoliciesOf, has_policy, policies_on, rule_policies, rule_policy}
 use Rattle.authz_gen.proofs.InOrder.{are_apart, is_apart, rises-in_order}
 use Rattle.authz_gen.proofs.Names.{is_plain, named, plain-label, plain-subdomain, same-parts}
 
@@ -85,41 +86,43 @@ module _ (action : Action) where
       same-parts (action_front action) p.namespace p.name (decimal i) q.namespace q.name (decimal j)
       hp.namespace hp.name hq.namespace hq.name (sym (name-is action p i hp.action_is) ∙ e ∙ name-is action q j hq.action_is)
 
+  pub same_names : (p q : AuthorizationPolicy) → p.namespace ≡ q.namespace → p.name ≡ q.name → same_policy p q ≡ true
+  same_names p q e f = and_from _ _ ((bytes_eq-Decides _ _).1 e) ((bytes_eq-Decides _ _).1 f)
+
+module _ (protocol : Protocol) (action : Action) where
   -- ---- rules of one policy
 
   index-apart : (p : AuthorizationPolicy) (i j : ℕ) (r s : Rule) → IsNamed action p → i < j → j < 4096
-      → Apart (rule_policy_tcp p (i, r)) (rule_policy_tcp p (j, s)) ≡ true
-  unfolding rule_policy_tcp
+      → Apart (rule_policy protocol p (i, r)) (rule_policy protocol p (j, s)) ≡ true
+  unfolding rule_policy
   index-apart p i j r s h below few =
       unequal (rule_name p i) (rule_name p j)
-      (λ e. let number : i ≡ j = decimal_injective i j (omega arith) (omega arith) (same p p i j h h e).2 in omega (arith, number))
+      (λ e. let number : i ≡ j = decimal_injective i j (omega arith) (omega arith) (same action p p i j h h e).2 in omega (arith, number))
 
   later-apart : (p : AuthorizationPolicy) (i : ℕ) (r : Rule) (k : ℕ) (rs : List Rule) → IsNamed action p → i < k → k + length rs ≤ 4096
-      → list_all (Apart (rule_policy_tcp p (i, r))) (map (rule_policy_tcp p) (enumerate_from k rs)) ≡ true
+      → list_all (Apart (rule_policy protocol p (i, r))) (map (rule_policy protocol p) (enumerate_from k rs)) ≡ true
   later-apart p i r k [] h below few = refl
   later-apart p i r k (s ∷ rs) h below few =
       and_from _ _ (index-apart p i k r s h below (omega arith)) (later-apart p i r (k + 1) rs h (omega arith) (omega arith))
 
   own-apart : (p : AuthorizationPolicy) (k : ℕ) (rs : List Rule) → IsNamed action p → k + length rs ≤ 4096
-      → are_apart name_of (map (rule_policy_tcp p) (enumerate_from k rs)) ≡ true
+      → are_apart name_of (map (rule_policy protocol p) (enumerate_from k rs)) ≡ true
   own-apart p k [] h few = refl
   own-apart p k (r ∷ rs) h few = and_from _ _ (later-apart p k r (k + 1) rs h (omega arith) (omega arith))
       (own-apart p (k + 1) rs h (omega arith))
 
   -- ---- rules of two policies
 
-  pub same_names : (p q : AuthorizationPolicy) → p.namespace ≡ q.namespace → p.name ≡ q.name → same_policy p q ≡ true
-  same_names p q e f = and_from _ _ ((bytes_eq-Decides _ _).1 e) ((bytes_eq-Decides _ _).1 f)
-
   policy-apart : (p q : AuthorizationPolicy) (i j : ℕ) (r s : Rule) → IsNamed action p → IsNamed action q → same_policy p q ≡ false
-      → Apart (rule_policy_tcp p (i, r)) (rule_policy_tcp q (j, s)) ≡ true
-  unfolding rule_policy_tcp
+      → Apart (rule_policy protocol p (i, r)) (rule_policy protocol q (j, s)) ≡ true
+  unfolding rule_policy
   policy-apart p q i j r s hp hq other =
       unequal (rule_name p i) (rule_name q j)
-      (λ e. let parts = same p q i j hp hq e in let both : false ≡ true = sym other ∙ same_names p q parts.0 parts.1 in cc)
+      (λ e. let parts = same action p q i j hp hq e in let both : false ≡ true = sym other ∙ same_names action p q parts.0 parts.1 in cc)
 
   rules-apart : (p q : AuthorizationPolicy) (i : ℕ) (r : Rule) (k : ℕ) (rs : List Rule) → IsNamed action p → IsNamed action q
-      → same_policy p q ≡ false → list_all (Apart (rule_policy_tcp p (i, r))) (map (rule_policy_tcp q) (enumerate_from k rs)) ≡ true
+      → same_policy p q ≡ false
+      → list_all (Apart (rule_policy protocol p (i, r))) (map (rule_policy protocol q) (enumerate_from k rs)) ≡ true
   rules-apart p q i r k [] hp hq other = refl
   rules-apart p q i r k (s ∷ rs) hp hq other =
       and_from _ _ (policy-apart p q i k r s hp hq other) (rules-apart p q i r (k + 1) rs hp hq other)
@@ -128,46 +131,46 @@ module _ (action : Action) where
   IsOther p q = same_policy p q ≡ false
 
   all-apart : (p : AuthorizationPolicy) (i : ℕ) (r : Rule) (qs : List AuthorizationPolicy) → IsNamed action p → All (IsNamed action) qs
-      → All (IsOther p) qs → list_all (Apart (rule_policy_tcp p (i, r))) (flat_map rule_policies_tcp qs) ≡ true
+      → All (IsOther p) qs → list_all (Apart (rule_policy protocol p (i, r))) (flat_map (rule_policies protocol) qs) ≡ true
   all-apart p i r [] hp hq other = refl
   all-apart p i r (q ∷ qs) hp hq other =
-      list_all-append (Apart (rule_policy_tcp p (i, r))) (rule_policies_tcp q) (flat_map rule_policies_tcp qs)
+      list_all-append (Apart (rule_policy protocol p (i, r))) (rule_policies protocol q) (flat_map (rule_policies protocol) qs)
       ∙ and_from _ _
-      (all-filter (Apart (rule_policy_tcp p (i, r))) (rule_policy_tcp q) (has_policy q.action) (enumerate_from 0 q.rules)
+      (all-filter (Apart (rule_policy protocol p (i, r))) (rule_policy protocol q) (has_policy protocol q.action) (enumerate_from 0 q.rules)
       (rules-apart p q i r 0 q.rules hp (All-head (IsNamed action) q qs hq) (All-head (IsOther p) q qs other)))
       (all-apart p i r qs hp (All-tail (IsNamed action) q qs hq) (All-tail (IsOther p) q qs other))
 
   -- ---- all rules
 
   joined : (p : AuthorizationPolicy) (entries : List (ℕ × Rule)) (others : List RbacPolicy)
-      → ((entry : ℕ × Rule) → list_all (Apart (rule_policy_tcp p entry)) others ≡ true)
-      → are_apart name_of (map (rule_policy_tcp p) entries) ≡ true → are_apart name_of others ≡ true
-      → are_apart name_of (map (rule_policy_tcp p) entries ++ others) ≡ true
+      → ((entry : ℕ × Rule) → list_all (Apart (rule_policy protocol p entry)) others ≡ true)
+      → are_apart name_of (map (rule_policy protocol p) entries) ≡ true → are_apart name_of others ≡ true
+      → are_apart name_of (map (rule_policy protocol p) entries ++ others) ≡ true
   joined p [] others each own rest = rest
   joined p (entry ∷ entries) others each own rest =
-      let first = rule_policy_tcp p entry in
-      let later = map (rule_policy_tcp p) entries in
+      let first = rule_policy protocol p entry in
+      let later = map (rule_policy protocol p) entries in
       let parts = and_parts (list_all (Apart first) later) (are_apart name_of later) own in
       and_from _ _ (list_all-append (Apart first) later others ∙ and_from _ _ parts.0 (each entry))
       (joined p entries others each parts.1 rest)
 
   pub names-apart : (ps : List AuthorizationPolicy) → All (IsNamed action) ps → AllPairs IsOther ps
-      → are_apart name_of (flat_map rule_policies_tcp ps) ≡ true
+      → are_apart name_of (flat_map (rule_policies protocol) ps) ≡ true
   names-apart [] h other = refl
   names-apart (p ∷ ps) h other =
       let here = All-head (IsNamed action) p ps h in
       let later = All-tail (IsNamed action) p ps h in
       let others : All (IsOther p) ps = λ k d within. other 0 (suc k) d (omega arith) (omega arith) in
       let pairs : AllPairs IsOther ps = λ i j d before within. other (suc i) (suc j) d (omega arith) (omega arith) in
-      joined p (filter (has_policy p.action) (enumerate_from 0 p.rules)) (flat_map rule_policies_tcp ps)
+      joined p (filter (has_policy protocol p.action) (enumerate_from 0 p.rules)) (flat_map (rule_policies protocol) ps)
       (λ entry. all-apart p entry.0 entry.1 ps here later others)
-      (apart-filter (rule_policy_tcp p) (has_policy p.action) (enumerate_from 0 p.rules)
+      (apart-filter (rule_policy protocol p) (has_policy protocol p.action) (enumerate_from 0 p.rules)
       (own-apart p 0 p.rules here (omega (arith, here.few))))
       (names-apart ps later pairs)
 
-pub names-rise : (action : Action) (policies : List AuthorizationPolicy) → ArePoliciesOf action policies
-    → names_rise (λ policy. policy.name) (policies_tcp policies) ≡ true
-unfolding policies_tcp
-names-rise action policies h =
-    rises-in_order name_of (flat_map rule_policies_tcp policies)
-    (names-apart action policies (all-named action policies h) h.accepted.each_once)
+pub names-rise : (protocol : Protocol) (action : Action) (policies : List AuthorizationPolicy) → ArePoliciesOf action policies
+    → names_rise (λ policy. policy.name) (policies_on protocol policies) ≡ true
+unfolding policies_on
+names-rise protocol action policies h =
+    rises-in_order name_of (flat_map (rule_policies protocol) policies)
+    (names-apart protocol action policies (all-named action policies h) h.accepted.each_once)

@@ -1,7 +1,9 @@
 -- Conditions as trees: each can be written, and is no wider than it is large.
 use Rattle.std.proofs.Common.{ℕ, ◌+◌, ◌*◌, ◌≤◌, All, List, length, map, arith}
+use Rattle.std.proofs.lemmas.Bool.{and_parts}
 use Rattle.mesh_policy.specs.AcceptedRules.{AcceptedCondition}
 use Rattle.mesh_policy.specs.Sizes.{condition_size}
+use Rattle.mesh_policy.specs.Values.{is_lower_name}
 use Rattle.mesh_policy.specs.declared.condition.BlockKey.TheVariants.{SourceIp, RemoteIp, DestinationIp}
 use Rattle.mesh_policy.specs.declared.condition.Condition.{Condition}
 use Rattle.mesh_policy.specs.declared.condition.Condition.TheVariants.{Words, Blocks, Ports}
@@ -11,13 +13,13 @@ use Rattle.mesh_tree.specs.declared.tree.Tree.{Tree}
 use Rattle.envoy_types.specs.PermissionForms.{permission_form}
 use Rattle.envoy_types.specs.PrincipalForms.{principal_form}
 use Rattle.envoy_types.specs.TreeForms.{TreeForm}
-use Rattle.authz_gen.specs.Conditions.{both_lists, destination_block, permission_of, principal_by, server_name_of}
+use Rattle.authz_gen.specs.Conditions.{both_lists, destination_block, header_of, permission_of, principal_by, server_name_of}
 use Rattle.authz_gen.specs.Lists.{all_of, field_of}
 use Rattle.authz_gen.specs.Operations.{port_tree}
 use Rattle.authz_gen.specs.Sources.{namespace_of, principal_of, remote_block, source_block}
 use Rattle.authz_gen.proofs.Fits.{AllFit, Fits, all-of-fits, fits-more, lists-fit, no-trees, one-tree}
 use Rattle.authz_gen.proofs.Small.{IsSmall, width_of}
-use Rattle.authz_gen.proofs.FieldsPrintable.{HasAddress, IsPort, IsShort, destination-fits, peer-fits, place-fits, port-fits}
+use Rattle.authz_gen.proofs.FieldsPrintable.{HasAddress, IsPort, IsShort, destination-fits, header-fits, peer-fits, place-fits, port-fits}
 use Rattle.authz_gen.proofs.FieldsPrintable.{remote-block-fits, server-fits, source-block-fits, texts-values}
 
 -- both lists of a condition of so many values
@@ -69,7 +71,11 @@ principal-by-fits (Words SourceNamespace xs ns) h small =
     (condition_size (Words SourceNamespace xs ns)).values (omega (arith, texts-values xs, texts-values ns)) small.values
     (width_of (condition_size (Words SourceNamespace xs ns))) (omega arith)
 principal-by-fits (Words Sni xs ns) h small = no-trees principal_form _
-principal-by-fits (Words (Header name) xs ns) h small = no-trees principal_form _
+principal-by-fits (Words (Header name) xs ns) h small =
+    both-lists-fit principal_form (header_of name) IsShort (header-fits name (and_parts (is_lower_name name) _ h.key).0) xs ns
+    h.values.each h.not_values.each
+    (condition_size (Words (Header name) xs ns)).values (omega (arith, texts-values xs, texts-values ns)) small.values
+    (width_of (condition_size (Words (Header name) xs ns))) (omega arith)
 principal-by-fits (Words AuthPrincipal xs ns) h small = no-trees principal_form _
 principal-by-fits (Words Audiences xs ns) h small = no-trees principal_form _
 principal-by-fits (Words Presenter xs ns) h small = no-trees principal_form _

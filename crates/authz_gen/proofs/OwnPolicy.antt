@@ -12,21 +12,23 @@ use Rattle.mesh_policy.specs.AcceptedBundle.{same_policy}
 use Rattle.mesh_policy.specs.AcceptedRules.{AcceptedRule}
 use Rattle.mesh_policy.specs.Attributes.{Seen}
 use Rattle.mesh_policy.specs.Explanation.{rule_name}
-use Rattle.mesh_policy.specs.RuleHolds.{rule_holds_tcp}
+use Rattle.mesh_policy.specs.Verdicts.{holds_on}
 use Rattle.mesh_policy.specs.declared.case.Case.{Case}
 use Rattle.mesh_policy.specs.declared.policy.Action.{Action}
 use Rattle.mesh_policy.specs.declared.policy.AuthorizationPolicy.{AuthorizationPolicy}
 use Rattle.mesh_policy.specs.declared.policy.Rule.{Rule}
+use Rattle.mesh_policy.specs.declared.service.Protocol.{Protocol}
 use Rattle.mesh_policy.proofs.AcceptedLemmas.{same_names-flips}
 use Rattle.envoy_types.specs.Access.{policy_holds}
 use Rattle.envoy_types.specs.declared.access.RbacPolicy.{RbacPolicy}
 use Rattle.peer_name.specs.Holds.{HasNamedPeer}
-use Rattle.authz_gen.specs.Policies.{ArePoliciesOf, has_policy, name_before, rule_policies_tcp, rule_policy_tcp}
+use Rattle.authz_gen.specs.Policies.{AreToldOn, ArePoliciesOf, IsJudgedOn, has_policy, name_before, rule_policies, rule_policy}
 use Rattle.mesh_policy.specs.Lists.{in_order}
 use Rattle.authz_gen.proofs.Apart.{IsNamed, all-named, same, same_names}
 use Rattle.authz_gen.proofs.InOrder.{any-in_order}
 use Rattle.authz_gen.proofs.ListAny.{All-enumerate, any-flat_map, any-kept, any-one}
 use Rattle.authz_gen.proofs.RuleHolds.{rule-decides}
+use Rattle.authz_gen.proofs.Told.{RuleIsToldOn, rules-told}
 
 -- ---- names that differ
 
@@ -50,23 +52,23 @@ module _ (action : Action) where
 
 -- ---- a policy holds where the one of that name does
 
-module _ (case : Case) (seen : Seen) where
+module _ (protocol : Protocol) (case : Case) (seen : Seen) where
   -- a policy of that name that holds
   abbrev is_own : List ℕ → RbacPolicy → Bool
   is_own name p = bytes_eq p.name name && policy_holds p case seen
 
   unlike-name : (name : List ℕ) (policy : AuthorizationPolicy) (e : ℕ × Rule) → bytes_eq (rule_name policy e.0) name ≡ false
-      → (has_policy policy.action e && is_own name (rule_policy_tcp policy e)) ≡ false
-  unfolding rule_policy_tcp
+      → (has_policy protocol policy.action e && is_own name (rule_policy protocol policy e)) ≡ false
+  unfolding rule_policy
   unlike-name name policy e differ =
-      and_right (has_policy policy.action e) _ (and_left _ (policy_holds (rule_policy_tcp policy e) case seen) differ)
+      and_right (has_policy protocol policy.action e) _ (and_left _ (policy_holds (rule_policy protocol policy e) case seen) differ)
 
   -- none of another policy
   none-of-other : (action : Action) (p q : AuthorizationPolicy) (i : ℕ) → IsNamed action p → IsNamed action q → same_policy q p ≡ false
-      → list_any (is_own (rule_name p i)) (rule_policies_tcp q) ≡ false
+      → list_any (is_own (rule_name p i)) (rule_policies protocol q) ≡ false
   none-of-other action p q i hp hq differ =
-      any-kept (is_own (rule_name p i)) (rule_policy_tcp q) (has_policy q.action) (enumerate_from 0 q.rules)
-      ∙ list_any_none (λ e. has_policy q.action e && is_own (rule_name p i) (rule_policy_tcp q e)) (enumerate_from 0 q.rules)
+      any-kept (is_own (rule_name p i)) (rule_policy protocol q) (has_policy protocol q.action) (enumerate_from 0 q.rules)
+      ∙ list_any_none (λ e. has_policy protocol q.action e && is_own (rule_name p i) (rule_policy protocol q e)) (enumerate_from 0 q.rules)
       (λ k d within. let e = get_or (enumerate_from 0 q.rules) k d in
       unlike-name (rule_name p i) q e (other-policy action q p e.0 i hq hp differ))
 
@@ -78,23 +80,24 @@ module _ (case : Case) (seen : Seen) where
 
   own-of-policy : (action : Action) (p : AuthorizationPolicy) (k : ℕ) (d : ℕ × Rule) → IsNamed action p
       → k < length (enumerate_from 0 p.rules)
-      → list_any (is_own (rule_name p (get_or (enumerate_from 0 p.rules) k d).0)) (rule_policies_tcp p)
-      ≡ (has_policy p.action (get_or (enumerate_from 0 p.rules) k d)
-      && policy_holds (rule_policy_tcp p (get_or (enumerate_from 0 p.rules) k d)) case seen)
-  unfolding rule_policy_tcp
+      → list_any (is_own (rule_name p (get_or (enumerate_from 0 p.rules) k d).0)) (rule_policies protocol p)
+      ≡ (has_policy protocol p.action (get_or (enumerate_from 0 p.rules) k d)
+      && policy_holds (rule_policy protocol p (get_or (enumerate_from 0 p.rules) k d)) case seen)
+  unfolding rule_policy
   own-of-policy action p k d h within =
       let entries = enumerate_from 0 p.rules in
       let own = get_or entries k d in
       let few : (j : ℕ) → j < length entries → (get_or entries j d).0 < 4096 =
       λ j inside. omega (arith, index-at p.rules j d inside, inside, length-enumerate_from 0 p.rules, h.few) in
       let others : (j : ℕ) → j < length entries → (j ≡ k → ⊥)
-      → (has_policy p.action (get_or entries j d) && is_own (rule_name p own.0) (rule_policy_tcp p (get_or entries j d))) ≡ false =
+      → (has_policy protocol p.action (get_or entries j d)
+      && is_own (rule_name p own.0) (rule_policy protocol p (get_or entries j d))) ≡ false =
       λ j inside other. unlike-name (rule_name p own.0) p (get_or entries j d)
       (other-index action p (get_or entries j d).0 own.0 h (few j inside) (few k within)
       (λ e. other (sym (index-at p.rules j d inside) ∙ e ∙ index-at p.rules k d within))) in
-      any-kept (is_own (rule_name p own.0)) (rule_policy_tcp p) (has_policy p.action) entries
-      ∙ any-one (λ e. has_policy p.action e && is_own (rule_name p own.0) (rule_policy_tcp p e)) entries k d within others
-      ∙ ap (λ b. has_policy p.action own && (b && policy_holds (rule_policy_tcp p own) case seen))
+      any-kept (is_own (rule_name p own.0)) (rule_policy protocol p) (has_policy protocol p.action) entries
+      ∙ any-one (λ e. has_policy protocol p.action e && is_own (rule_name p own.0) (rule_policy protocol p e)) entries k d within others
+      ∙ ap (λ b. has_policy protocol p.action own && (b && policy_holds (rule_policy protocol p own) case seen))
       ((bytes_eq-Decides (rule_name p own.0) (rule_name p own.0)).1 refl)
 
 -- ---- among all policies
@@ -109,25 +112,27 @@ others-apart policies apart j n d inside within other (inr (inr above)) =
     let q = get_or policies n d in
     same_names-flips p.namespace p.name q.namespace q.name ∙ apart n j d above inside
 
-pub holds-as-own : (action : Action) (policies : List AuthorizationPolicy) → ArePoliciesOf action policies
-    → (case : Case) (seen : Seen) → HasNamedPeer case
+pub holds-as-own : (protocol : Protocol) (action : Action) (policies : List AuthorizationPolicy) → ArePoliciesOf action policies
+    → AreToldOn protocol policies → (case : Case) (seen : Seen) → HasNamedPeer case → IsJudgedOn protocol case seen
     → (n : ℕ) (d : AuthorizationPolicy) → n < length policies
     → (k : ℕ) (e : ℕ × Rule) → k < length (enumerate_from 0 (get_or policies n d).rules)
-    → rule_holds_tcp case seen (get_or policies n d).action (get_or (enumerate_from 0 (get_or policies n d).rules) k e).1
-    ≡ list_any (is_own case seen (rule_name (get_or policies n d) (get_or (enumerate_from 0 (get_or policies n d).rules) k e).0))
-    (in_order name_before (flat_map rule_policies_tcp policies))
-holds-as-own action policies h case seen named n d within k e inside =
+    → holds_on protocol case seen (get_or policies n d).action (get_or (enumerate_from 0 (get_or policies n d).rules) k e).1
+    ≡ list_any (is_own protocol case seen (rule_name (get_or policies n d) (get_or (enumerate_from 0 (get_or policies n d).rules) k e).0))
+    (in_order name_before (flat_map (rule_policies protocol) policies))
+holds-as-own protocol action policies h told case seen named judged n d within k e inside =
     let policy = get_or policies n d in
     let entries = enumerate_from 0 policy.rules in
     let entry = get_or entries k e in
-    let test = is_own case seen (rule_name policy entry.0) in
+    let test = is_own protocol case seen (rule_name policy entry.0) in
     let names = all-named action policies h in
     let each : All (λ (x : ℕ × Rule). AcceptedRule x.1) entries =
     All-enumerate AcceptedRule 0 policy.rules (h.accepted.each n d within).rules.each in
-    sym (any-in_order name_before test (flat_map rule_policies_tcp policies)
-    ∙ any-flat_map test rule_policies_tcp policies
-    ∙ any-one (λ q. list_any test (rule_policies_tcp q)) policies n d within
-    (λ j there other. none-of-other case seen action policy (get_or policies j d) entry.0 (names n d within) (names j d there)
+    let each_told : All (λ (x : ℕ × Rule). RuleIsToldOn protocol x.1) entries =
+    All-enumerate (RuleIsToldOn protocol) 0 policy.rules (rules-told protocol policies told n d within) in
+    sym (any-in_order name_before test (flat_map (rule_policies protocol) policies)
+    ∙ any-flat_map test (rule_policies protocol) policies
+    ∙ any-one (λ q. list_any test (rule_policies protocol q)) policies n d within
+    (λ j there other. none-of-other protocol case seen action policy (get_or policies j d) entry.0 (names n d within) (names j d there)
     (others-apart policies h.accepted.each_once j n d there within other (cases_order j n)))
-    ∙ own-of-policy case seen action policy k e (names n d within) inside
-    ∙ rule-decides case seen named policy policy.action entry (each k e inside))
+    ∙ own-of-policy protocol case seen action policy k e (names n d within) inside
+    ∙ rule-decides case seen named protocol judged policy policy.action entry (each k e inside) (each_told k e inside))

@@ -45,7 +45,7 @@ PermissionFits tree most = Fits permission_form tree most
 filled : (c : ℕ) (rest : List ℕ) → is_filled (c ∷ rest) ≡ true
 filled c rest = le-leb 1 (length (c ∷ rest)) (omega arith)
 
-filled-text : (text : List ℕ) → text ≢ [] → is_filled text ≡ true
+pub filled-text : (text : List ℕ) → text ≢ [] → is_filled text ≡ true
 filled-text [] h = absurd (h refl)
 filled-text (c ∷ rest) h = filled c rest
 

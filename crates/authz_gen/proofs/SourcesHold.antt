@@ -1,13 +1,12 @@
 -- The principal of a source holds exactly where the source does, of a peer whose name is well-formed.
-use Rattle.std.proofs.Common.{◌≡◌, ℕ, Bool, true, ◌&&◌, List, ◌++◌, map, sym, ◌∙◌, ap}
+use Rattle.std.proofs.Common.{◌≡◌, ℕ, Bool, true, false, not, ◌&&◌, ◌||◌, List, [], ◌∷◌, ◌++◌, length, map, refl, sym, ◌∙◌, ap}
 use Rattle.std.proofs.Math.Bool.{and-true}
-use Rattle.std.proofs.lemmas.List.Folds.{list_all-append}
-use Rattle.std.specs.List.{list_all}
+use Rattle.std.proofs.Math.Dec.{eqb-suc-zero}
 use Rattle.mesh_net.specs.declared.cidr.Cidr.{Cidr}
 use Rattle.mesh_policy.specs.Attributes.{Seen, attribute}
 use Rattle.mesh_policy.specs.Attributes as key
 use Rattle.mesh_policy.specs.Pattern.{pattern_of}
-use Rattle.mesh_policy.specs.RuleHolds.{block_matches, both_hold, source_holds, source_without_http, value_matches}
+use Rattle.mesh_policy.specs.RuleHolds.{block_matches, both_hold, is_written, source_holds, source_needs_http, value_matches}
 use Rattle.mesh_policy.specs.declared.case.Case.{Case}
 use Rattle.mesh_policy.specs.declared.policy.SourceSpec.{SourceSpec}
 use Rattle.mesh_tree.specs.Judge.{tree_holds}
@@ -19,23 +18,23 @@ use Rattle.peer_name.proofs.NamespaceHolds.{namespace-holds}
 use Rattle.peer_name.proofs.PrincipalHolds.{principal-holds}
 use Rattle.peer_name.specs.Holds.{HasNamedPeer}
 use Rattle.authz_gen.specs.Lists.{field_of}
-use Rattle.authz_gen.specs.Sources.{namespace_of, principal_of, remote_block, source_block, source_tcp}
-use Rattle.authz_gen.proofs.TreeHolds.{all-holds, each-field-holds}
+use Rattle.authz_gen.specs.Sources.{namespace_of, principal_of, remote_block, source_block, source_tree}
+use Rattle.authz_gen.proofs.TreeHolds.{all-holds, each-field-holds, four-lists}
 
--- four lists of which all hold
-module _ {A : Type 0} (p : A → Bool) where
-  four-lists : (ws xs ys zs : List A) (a b c d : Bool)
-      → list_all p ws ≡ a → list_all p xs ≡ b → list_all p ys ≡ c → list_all p zs ≡ d
-      → list_all p (ws ++ xs ++ ys ++ zs) ≡ (a && b && c && d)
-  four-lists ws xs ys zs a b c d in_ws in_xs in_ys in_zs =
-      list_all-append p (ws ++ xs ++ ys) zs
-      ∙ ap (λ x. x && list_all p zs)
-      (list_all-append p (ws ++ xs) ys ∙ ap (λ x. x && list_all p ys) (list_all-append p ws xs))
-      ∙ λ i. in_ws i && in_xs i && in_ys i && in_zs i
+-- lists without an entry hold
+unwritten : {A : Type 0} (matches : A → Bool) (xs not_xs : List A) → (is_written xs || is_written not_xs) ≡ false
+    → both_hold matches xs not_xs ≡ true
+unwritten matches [] [] none = refl
+unwritten matches [] (y ∷ ys) none =
+    let wrong : true ≡ false = sym (ap not (eqb-suc-zero (length ys))) ∙ none in
+    absurd cc
+unwritten matches (x ∷ xs) not_xs none =
+    let wrong : true ≡ false = sym (ap (λ b. not b || is_written not_xs) (eqb-suc-zero (length xs))) ∙ none in
+    absurd cc
 
--- the fields of a source, and one of requests that is not written
-fields : (a b c d : Bool) → (a && b && c && d) ≡ (a && true && b && c && d)
-fields a b c d = ap (λ x. x && b && c && d) (sym (and-true a))
+-- the fields of a source, and one that holds beside them
+fields : (a r b c d : Bool) → r ≡ true → (a && b && c && d) ≡ (a && r && b && c && d)
+fields a r b c d holds = ap (λ x. x && b && c && d) (sym (and-true a) ∙ ap (λ x. a && x) (sym holds))
 
 module _ (case : Case) (seen : Seen) where
   abbrev pub admits : PrincipalLeaf → Bool
@@ -65,10 +64,11 @@ module _ (case : Case) (seen : Seen) where
 
   -- ---- sources
 
-  pub source-holds : HasNamedPeer case → (s : SourceSpec)
-      → tree_holds admits (source_tcp s) ≡ source_holds case seen (source_without_http s)
-  unfolding source_tcp
-  source-holds named s =
+  -- one that asks for no request principal
+  pub source-holds : HasNamedPeer case → (s : SourceSpec) → source_needs_http s ≡ false
+      → tree_holds admits (source_tree s) ≡ source_holds case seen s
+  unfolding source_tree
+  source-holds named s none =
       let principals = field_of (map principal_of s.principals) (map principal_of s.not_principals) in
       let namespaces = field_of (map namespace_of s.namespaces) (map namespace_of s.not_namespaces) in
       let blocks = field_of (map source_block s.ip_blocks) (map source_block s.not_ip_blocks) in
@@ -80,6 +80,8 @@ module _ (case : Case) (seen : Seen) where
       (each-field-holds admits source_block (by_block key.source_ip) source-block-matches s.ip_blocks s.not_ip_blocks)
       (each-field-holds admits remote_block (by_block key.remote_ip) remote-block-matches s.remote_ip_blocks s.not_remote_ip_blocks)
       ∙ fields (both_hold (by_key key.source_principal) s.principals s.not_principals)
+      (both_hold (by_key key.request_principal) s.request_principals s.not_request_principals)
       (both_hold (by_key key.source_namespace) s.namespaces s.not_namespaces)
       (both_hold (by_block key.source_ip) s.ip_blocks s.not_ip_blocks)
       (both_hold (by_block key.remote_ip) s.remote_ip_blocks s.not_remote_ip_blocks)
+      (unwritten (by_key key.request_principal) s.request_principals s.not_request_principals none)

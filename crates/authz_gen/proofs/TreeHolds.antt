@@ -1,5 +1,5 @@
 -- What the trees of lists of values hold for.
-use Rattle.std.proofs.Common.{◌≡◌, ◌==◌, Bool, not, ◌&&◌, ◌||◌, All, List, [], ◌∷◌, get_or, length, map}
+use Rattle.std.proofs.Common.{◌≡◌, ◌==◌, Bool, not, ◌&&◌, ◌||◌, All, List, [], ◌∷◌, ◌++◌, get_or, length, map}
 use Rattle.std.proofs.Common.{refl, ◌∙◌, ap}
 use Rattle.std.proofs.Math.Bool.{and-true}
 use Rattle.std.proofs.Math.Dec.{eqb-suc-zero}
@@ -22,12 +22,15 @@ any-made test make matches (x ∷ xs) each =
     ap (λ b. b || list_any test (map make xs)) (All-head (λ y. test (make y) ≡ matches y) x xs each)
     ∙ ap (λ b. matches x || b) (any-made test make matches xs (All-tail (λ y. test (make y) ≡ matches y) x xs each))
 
--- a part that isn't written holds as what is made of it
-pub one_of-made : {A B : Type 0} (test : B → Bool) (make : A → B) (xs : List A)
-    → rules.one_of test (map make xs) ≡ rules.one_of (λ x. test (make x)) xs
-one_of-made test make xs =
-    ap (λ n. (n == 0) || list_any test (map make xs)) (length-map xs make)
-    ∙ ap (λ b. (length xs == 0) || b) (any-made test make (λ x. test (make x)) xs (λ k d within. refl))
+-- four lists of which all hold
+pub four-lists : {A : Type 0} (p : A → Bool) (ws xs ys zs : List A) (a b c d : Bool)
+    → list_all p ws ≡ a → list_all p xs ≡ b → list_all p ys ≡ c → list_all p zs ≡ d
+    → list_all p (ws ++ xs ++ ys ++ zs) ≡ (a && b && c && d)
+four-lists p ws xs ys zs a b c d in_ws in_xs in_ys in_zs =
+    list_all-append p (ws ++ xs ++ ys) zs
+    ∙ ap (λ x. x && list_all p zs)
+    (list_all-append p (ws ++ xs) ys ∙ ap (λ x. x && list_all p ys) (list_all-append p ws xs))
+    ∙ λ i. in_ws i && in_xs i && in_ys i && in_zs i
 
 module _ {L : Type 0} (p : L → Bool) where
   pub all-holds : (ts : List (Tree L)) → tree_holds p (all_of ts) ≡ list_all (tree_holds p) ts

@@ -1,6 +1,6 @@
--- The conditions of a rule on a connection (Istio reference, "Authorization Policy Conditions"). Those on what is asked for are
--- permissions, and those on who asks are principals (Envoy v3 API reference, `config.rbac.v3`). The keys that only a request has
--- give neither.
+-- The conditions of a rule (Istio reference, "Authorization Policy Conditions"). Those on what is asked for are permissions, and
+-- those on who asks, headers among them, are principals (Envoy v3 API reference, `config.rbac.v3`). The keys on the token of a
+-- request give neither yet.
 use Rattle.std.specs.Prelude.{ℕ, List, [], ◌∷◌, map}
 use Rattle.mesh_net.specs.declared.cidr.Cidr.{Cidr}
 use Rattle.mesh_policy.specs.Pattern.{pattern_of}
@@ -15,6 +15,7 @@ use Rattle.mesh_tree.specs.declared.tree.Tree.{Tree}
 use Rattle.envoy_types.specs.declared.permission.PermissionLeaf.{PermissionLeaf}
 use Rattle.envoy_types.specs.declared.permission.PermissionLeaf.TheVariants as permission
 use Rattle.envoy_types.specs.declared.principal.PrincipalLeaf.{PrincipalLeaf}
+use Rattle.str_match.specs.Headers.{header_tree}
 use Rattle.str_match.specs.ServerName.{sni_tree}
 use Rattle.authz_gen.specs.Lists.{all_of, field_of}
 use Rattle.authz_gen.specs.Operations.{port_tree}
@@ -51,12 +52,16 @@ permission_of (Ports values not_values) = both_lists port_tree values not_values
 
 -- ---- who asks
 
--- the principal of a condition on the peer's name or the source's addresses; none of another
+-- the requests whose header of this name a value matches
+abbrev pub header_of : (name value : List ℕ) → Tree PrincipalLeaf
+header_of name value = header_tree name (pattern_of value)
+
+-- the principal of a condition on the peer's name, the source's addresses or a header; none of another
 unfoldable pub principal_by : Condition → List (Tree PrincipalLeaf)
 principal_by (Words SourcePrincipal values not_values) = both_lists principal_of values not_values
 principal_by (Words SourceNamespace values not_values) = both_lists namespace_of values not_values
 principal_by (Words Sni values not_values) = []
-principal_by (Words (Header name) values not_values) = []
+principal_by (Words (Header name) values not_values) = both_lists (header_of name) values not_values
 principal_by (Words AuthPrincipal values not_values) = []
 principal_by (Words Audiences values not_values) = []
 principal_by (Words Presenter values not_values) = []

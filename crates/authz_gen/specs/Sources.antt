@@ -29,9 +29,9 @@ source_block block = tree_of (Node.Leaf (DirectRemoteIp block))
 abbrev pub remote_block : Cidr → Tree PrincipalLeaf
 remote_block block = tree_of (Node.Leaf (RemoteIp block))
 
--- All fields of a source that a connection has: principals, namespaces and addresses. A source without any is everyone.
-unfoldable pub source_tcp : SourceSpec → Tree PrincipalLeaf
-source_tcp source = all_of
+-- The fields of a source but for those on request principals: principals, namespaces and addresses. A source without any is everyone.
+unfoldable pub source_tree : SourceSpec → Tree PrincipalLeaf
+source_tree source = all_of
     (field_of (map principal_of source.principals) (map principal_of source.not_principals)
     ++ field_of (map namespace_of source.namespaces) (map namespace_of source.not_namespaces)
     ++ field_of (map source_block source.ip_blocks) (map source_block source.not_ip_blocks)

@@ -1,6 +1,7 @@
-// The conditions of a rule on a connection: those on what is asked for as permissions, those on who asks as principals.
-ghost use Rattle.std.specs.Prelude.{◌≡◌, ◌≢◌, ◌++◌, All, [], IfOk, OnOk, ⊤};
-ghost use Rattle.mesh_policy.specs.AcceptedRules.{AcceptedCondition};
+// The conditions of a rule: those on what is asked for as permissions, those on who asks as principals.
+ghost use Rattle.std.specs.Prelude.{◌≡◌, ◌≢◌, ◌++◌, All, [], IfOk, IsTrue, OnOk, ⊤};
+ghost use Rattle.mesh_text.specs.Token.{is_token};
+ghost use Rattle.mesh_policy.specs.AcceptedRules.{AcceptedCondition, is_text_key};
 ghost use Rattle.mesh_policy.specs.declared.condition.Condition.TheVariants as condition;
 ghost use Rattle.authz_gen.specs.Conditions as meaning;
 
@@ -13,7 +14,7 @@ use mesh_policy::{BlockKey, Condition, Pattern, TextKey};
 use mesh_text::{List, Memory, Text};
 use mesh_tree::Tree;
 use std::alloc::Global;
-use str_match::sni_tree;
+use str_match::{header_tree, sni_tree};
 
 // ---- what is asked for
 
@@ -25,11 +26,11 @@ impl Field for ServerNames {
 
     type Leaf = PermissionLeaf;
 
-    ghost accepted = { λ value. value ≢ [] };
+    ghost accepted = { λ _ value. value ≢ [] };
 
-    ghost tree = { meaning.server_name_of };
+    ghost tree = { λ _. meaning.server_name_of };
 
-    fn make(alloc: Global, value: &Text) -> Result<Tree<PermissionLeaf>, Memory> {
+    fn make(&self, alloc: Global, value: &Text) -> Result<Tree<PermissionLeaf>, Memory> {
         let pattern = Pattern::parse(alloc, value)?;
         sni_tree(alloc, &pattern)
     }
@@ -43,11 +44,11 @@ impl Field for DestinationBlocks {
 
     type Leaf = PermissionLeaf;
 
-    ghost accepted = { λ _. ⊤ };
+    ghost accepted = { λ _ _. ⊤ };
 
-    ghost tree = { meaning.destination_block };
+    ghost tree = { λ _. meaning.destination_block };
 
-    fn make(_alloc: Global, block: &Cidr) -> Result<Tree<PermissionLeaf>, Memory> {
+    fn make(&self, _alloc: Global, block: &Cidr) -> Result<Tree<PermissionLeaf>, Memory> {
         Ok(Tree::leaf(PermissionLeaf::DestinationIp(*block)))
     }
 }
@@ -74,7 +75,7 @@ pub fn push_permission(
             not_values,
         } => push_asked_blocks(alloc, parts, *key, values, not_values),
         Condition::Ports { values, not_values } => {
-            push_both_lists::<Ports>(alloc, parts, values, not_values)
+            push_both_lists(alloc, &Ports, parts, values, not_values)
         }
     }
 }
@@ -93,7 +94,7 @@ fn push_asked_words(
         ≡ parts.old ++ meaning.permission_of (condition.Words key.now values.now not_values.now)) }
 {
     match key {
-        TextKey::Sni => push_both_lists::<ServerNames>(alloc, parts, values, not_values),
+        TextKey::Sni => push_both_lists(alloc, &ServerNames, parts, values, not_values),
         TextKey::SourcePrincipal
         | TextKey::SourceNamespace
         | TextKey::Header(_)
@@ -116,7 +117,7 @@ fn push_asked_blocks(
 {
     match key {
         BlockKey::DestinationIp => {
-            push_both_lists::<DestinationBlocks>(alloc, parts, values, not_values)
+            push_both_lists(alloc, &DestinationBlocks, parts, values, not_values)
         }
         BlockKey::SourceIp | BlockKey::RemoteIp => Ok(()),
     }
@@ -124,7 +125,28 @@ fn push_asked_blocks(
 
 // ---- who asks
 
-// Adds the principal of a condition on the peer's name or the source's addresses.
+// Headers of one name, of which the first has one of the values.
+#[derive(Drop)]
+struct Headers<'a> {
+    name: &'a str,
+}
+
+impl<'a> Field for Headers<'a> {
+    type Value = Text;
+
+    type Leaf = PrincipalLeaf;
+
+    ghost accepted = { λ field value. IsTrue (is_token field.name.now) × (value ≢ []) };
+
+    ghost tree = { λ field. meaning.header_of field.name.now };
+
+    fn make(&self, alloc: Global, value: &Text) -> Result<Tree<PrincipalLeaf>, Memory> {
+        let pattern = Pattern::parse(alloc, value)?;
+        header_tree(alloc, self.name, &pattern)
+    }
+}
+
+// Adds the principal of a condition on the peer's name, the source's addresses or a header.
 #[tactic(auto, unfolding(crate::specs::Conditions::principal_by))]
 pub fn push_principal(
     alloc: Global,
@@ -157,6 +179,7 @@ fn push_peer_words(
     values: &[Text],
     not_values: &[Text],
 ) -> Result<(), Memory>
+    requires key { IsTrue (is_text_key key.now) }
     requires values { All (λ value. value ≢ []) values.now }
     requires not_values { All (λ value. value ≢ []) not_values.now }
     ensures { OnOk result (parts.new
@@ -164,13 +187,23 @@ fn push_peer_words(
 {
     match key {
         TextKey::SourcePrincipal => {
-            push_both_lists::<Principals>(alloc, parts, values, not_values)
+            push_both_lists(alloc, &Principals, parts, values, not_values)
         }
         TextKey::SourceNamespace => {
-            push_both_lists::<Namespaces>(alloc, parts, values, not_values)
+            push_both_lists(alloc, &Namespaces, parts, values, not_values)
+        }
+        TextKey::Header(name) => {
+            push_both_lists(
+                alloc,
+                &Headers {
+                    name: name.as_str(),
+                },
+                parts,
+                values,
+                not_values,
+            )
         }
         TextKey::Sni
-        | TextKey::Header(_)
         | TextKey::AuthPrincipal
         | TextKey::Audiences
         | TextKey::Presenter
@@ -189,8 +222,8 @@ fn push_addresses(
     ensures { OnOk result (parts.new ≡ parts.old ++ meaning.principal_by (condition.Blocks key values.now not_values.now)) }
 {
     match key {
-        BlockKey::SourceIp => { push_both_lists::<SourceBlocks>(alloc, parts, values, not_values) }
-        BlockKey::RemoteIp => { push_both_lists::<RemoteBlocks>(alloc, parts, values, not_values) }
+        BlockKey::SourceIp => { push_both_lists(alloc, &SourceBlocks, parts, values, not_values) }
+        BlockKey::RemoteIp => { push_both_lists(alloc, &RemoteBlocks, parts, values, not_values) }
         BlockKey::DestinationIp => Ok(()),
     }
 }

@@ -15,23 +15,27 @@ pub trait Field {
 
     type Leaf: Drop;
 
-    ghost accepted: { Self.Value → Type 0 };
+    ghost accepted: { Self → Self.Value → Type 0 };
 
-    ghost tree: { Self.Value → Tree Self.Leaf };
+    ghost tree: { Self → Self.Value → Tree Self.Leaf };
 
-    fn make(alloc: Global, value: &Self::Value) -> Result<Tree<Self::Leaf>, Memory>
-        requires { accepted value.now }
-        ensures { IfOk result (λ t. t ≡ tree value.now) };
+    fn make(&self, alloc: Global, value: &Self::Value) -> Result<Tree<Self::Leaf>, Memory>
+        requires { accepted self.now value.now }
+        ensures { IfOk result (λ t. t ≡ tree self.now value.now) };
 }
 
 /// The trees of these values, in their order.
-pub fn trees_of<F: Field>(alloc: Global, values: &[F::Value]) -> Result<List<Tree<F::Leaf>>, Memory>
-    requires { All F.accepted values.now }
-    ensures { IfOk result (λ ts. ts ≡ map F.tree values.now) }
+pub fn trees_of<F: Field>(
+    alloc: Global,
+    field: &F,
+    values: &[F::Value],
+) -> Result<List<Tree<F::Leaf>>, Memory>
+    requires { All (F.accepted field.now) values.now }
+    ensures { IfOk result (λ ts. ts ≡ map (F.tree field.now) values.now) }
 {
     let mut trees = List::with_room(alloc, values.len())?;
     for value in values {
-        trees.push(F::make(alloc, value)?)?;
+        trees.push(field.make(alloc, value)?)?;
     }
     Ok(trees)
 }
@@ -39,17 +43,18 @@ pub fn trees_of<F: Field>(alloc: Global, values: &[F::Value]) -> Result<List<Tre
 /// Adds that one of the values matches, where there are any, and none of those of the `not` field beside it.
 pub fn push_field<F: Field>(
     alloc: Global,
+    field: &F,
     parts: &mut List<Tree<F::Leaf>>,
     values: &[F::Value],
     not_values: &[F::Value],
 ) -> Result<(), Memory>
-    requires values { All F.accepted values.now }
-    requires not_values { All F.accepted not_values.now }
+    requires values { All (F.accepted field.now) values.now }
+    requires not_values { All (F.accepted field.now) not_values.now }
     ensures { OnOk result (parts.new
-        ≡ parts.old ++ field_of (map F.tree values.now) (map F.tree not_values.now)) }
+        ≡ parts.old ++ field_of (map (F.tree field.now) values.now) (map (F.tree field.now) not_values.now)) }
 {
-    let trees = trees_of::<F>(alloc, values)?;
-    let not_trees = trees_of::<F>(alloc, not_values)?;
+    let trees = trees_of(alloc, field, values)?;
+    let not_trees = trees_of(alloc, field, not_values)?;
     push_one_of(alloc, parts, trees)?;
     push_none_of(alloc, parts, not_trees)
 }
@@ -57,15 +62,16 @@ pub fn push_field<F: Field>(
 /// Adds the same as one part, which is there also where both lists are empty.
 pub fn push_both_lists<F: Field>(
     alloc: Global,
+    field: &F,
     parts: &mut List<Tree<F::Leaf>>,
     values: &[F::Value],
     not_values: &[F::Value],
 ) -> Result<(), Memory>
-    requires values { All F.accepted values.now }
-    requires not_values { All F.accepted not_values.now }
-    ensures { OnOk result (parts.new ≡ parts.old ++ both_lists F.tree values.now not_values.now) }
+    requires values { All (F.accepted field.now) values.now }
+    requires not_values { All (F.accepted field.now) not_values.now }
+    ensures { OnOk result (parts.new ≡ parts.old ++ both_lists (F.tree field.now) values.now not_values.now) }
 {
     let mut own = List::new(alloc);
-    push_field::<F>(alloc, &mut own, values, not_values)?;
+    push_field(alloc, field, &mut own, values, not_values)?;
     parts.push(all_of(alloc, own)?)
 }

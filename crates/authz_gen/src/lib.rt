@@ -13,5 +13,5 @@ mod policies;
 mod rules;
 mod sources;
 
-pub use laws::tcp_filters_enforce;
-pub use policies::tcp_rbac;
+pub use laws::filters_enforce;
+pub use policies::{http_rbac, tcp_rbac};

@@ -52,7 +52,7 @@ fn operation_needs_http(operation: &OperationSpec) -> bool
         || !operation.not_paths.is_empty()
 }
 
-fn condition_needs_http(condition: &Condition) -> bool
+pub fn condition_needs_http(condition: &Condition) -> bool
     ensures { result ≡ meaning.condition_needs_http condition.now }
 {
     match condition {

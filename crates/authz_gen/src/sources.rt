@@ -1,4 +1,4 @@
-// Who a connection comes from, as a principal.
+// Who asks, as a principal.
 ghost use Rattle.std.specs.Prelude.{◌≡◌, ◌≢◌, ◌++◌, [], map, IfOk, OnOk, ⊤};
 ghost use Rattle.mesh_policy.specs.AcceptedRules.{AcceptedSource};
 ghost use Rattle.authz_gen.specs.Lists.{field_of};
@@ -24,20 +24,20 @@ impl Field for Sources {
 
     type Leaf = PrincipalLeaf;
 
-    ghost accepted = { AcceptedSource };
+    ghost accepted = { λ _. AcceptedSource };
 
-    ghost tree = { meaning.source_tcp };
+    ghost tree = { λ _. meaning.source_tree };
 
-    fn make(alloc: Global, source: &SourceSpec) -> Result<Tree<PrincipalLeaf>, Memory> {
-        source_tcp(alloc, source)
+    fn make(&self, alloc: Global, source: &SourceSpec) -> Result<Tree<PrincipalLeaf>, Memory> {
+        source_tree(alloc, source)
     }
 }
 
-// All fields of a source that a connection has.
-#[tactic(auto, unfolding(crate::specs::Sources::source_tcp))]
-fn source_tcp(alloc: Global, source: &SourceSpec) -> Result<Tree<PrincipalLeaf>, Memory>
+// The fields of a source but for those on request principals.
+#[tactic(auto, unfolding(crate::specs::Sources::source_tree))]
+fn source_tree(alloc: Global, source: &SourceSpec) -> Result<Tree<PrincipalLeaf>, Memory>
     requires { AcceptedSource source.now }
-    ensures { IfOk result (λ t. t ≡ meaning.source_tcp source.now) }
+    ensures { IfOk result (λ t. t ≡ meaning.source_tree source.now) }
 {
     let mut parts = List::new(alloc);
     push_names(alloc, &mut parts, source)?;
@@ -56,8 +56,20 @@ fn push_names(
         ++ field_of (map meaning.principal_of source.now.principals) (map meaning.principal_of source.now.not_principals)
         ++ field_of (map meaning.namespace_of source.now.namespaces) (map meaning.namespace_of source.now.not_namespaces)) }
 {
-    push_field::<Principals>(alloc, parts, &source.principals, &source.not_principals)?;
-    push_field::<Namespaces>(alloc, parts, &source.namespaces, &source.not_namespaces)
+    push_field(
+        alloc,
+        &Principals,
+        parts,
+        &source.principals,
+        &source.not_principals,
+    )?;
+    push_field(
+        alloc,
+        &Namespaces,
+        parts,
+        &source.namespaces,
+        &source.not_namespaces,
+    )
 }
 
 // Adds those that ask for addresses.
@@ -70,9 +82,16 @@ fn push_blocks(
         ++ field_of (map meaning.source_block source.now.ip_blocks) (map meaning.source_block source.now.not_ip_blocks)
         ++ field_of (map meaning.remote_block source.now.remote_ip_blocks) (map meaning.remote_block source.now.not_remote_ip_blocks)) }
 {
-    push_field::<SourceBlocks>(alloc, parts, &source.ip_blocks, &source.not_ip_blocks)?;
-    push_field::<RemoteBlocks>(
+    push_field(
         alloc,
+        &SourceBlocks,
+        parts,
+        &source.ip_blocks,
+        &source.not_ip_blocks,
+    )?;
+    push_field(
+        alloc,
+        &RemoteBlocks,
         parts,
         &source.remote_ip_blocks,
         &source.not_remote_ip_blocks,
@@ -89,11 +108,11 @@ impl Field for Principals {
 
     type Leaf = PrincipalLeaf;
 
-    ghost accepted = { λ value. value ≢ [] };
+    ghost accepted = { λ _ value. value ≢ [] };
 
-    ghost tree = { meaning.principal_of };
+    ghost tree = { λ _. meaning.principal_of };
 
-    fn make(alloc: Global, value: &Text) -> Result<Tree<PrincipalLeaf>, Memory> {
+    fn make(&self, alloc: Global, value: &Text) -> Result<Tree<PrincipalLeaf>, Memory> {
         let pattern = Pattern::parse(alloc, value)?;
         principal_tree(alloc, &pattern)
     }
@@ -107,11 +126,11 @@ impl Field for Namespaces {
 
     type Leaf = PrincipalLeaf;
 
-    ghost accepted = { λ value. value ≢ [] };
+    ghost accepted = { λ _ value. value ≢ [] };
 
-    ghost tree = { meaning.namespace_of };
+    ghost tree = { λ _. meaning.namespace_of };
 
-    fn make(alloc: Global, value: &Text) -> Result<Tree<PrincipalLeaf>, Memory> {
+    fn make(&self, alloc: Global, value: &Text) -> Result<Tree<PrincipalLeaf>, Memory> {
         let pattern = Pattern::parse(alloc, value)?;
         namespace_tree(alloc, &pattern)
     }
@@ -127,11 +146,11 @@ impl Field for SourceBlocks {
 
     type Leaf = PrincipalLeaf;
 
-    ghost accepted = { λ _. ⊤ };
+    ghost accepted = { λ _ _. ⊤ };
 
-    ghost tree = { meaning.source_block };
+    ghost tree = { λ _. meaning.source_block };
 
-    fn make(_alloc: Global, block: &Cidr) -> Result<Tree<PrincipalLeaf>, Memory> {
+    fn make(&self, _alloc: Global, block: &Cidr) -> Result<Tree<PrincipalLeaf>, Memory> {
         Ok(Tree::leaf(PrincipalLeaf::DirectRemoteIp(*block)))
     }
 }
@@ -144,11 +163,11 @@ impl Field for RemoteBlocks {
 
     type Leaf = PrincipalLeaf;
 
-    ghost accepted = { λ _. ⊤ };
+    ghost accepted = { λ _ _. ⊤ };
 
-    ghost tree = { meaning.remote_block };
+    ghost tree = { λ _. meaning.remote_block };
 
-    fn make(_alloc: Global, block: &Cidr) -> Result<Tree<PrincipalLeaf>, Memory> {
+    fn make(&self, _alloc: Global, block: &Cidr) -> Result<Tree<PrincipalLeaf>, Memory> {
         Ok(Tree::leaf(PrincipalLeaf::RemoteIp(*block)))
     }
 }

@@ -1,29 +1,35 @@
 -- The listener that is built of a workload within its limits can be written.
-use Rattle.std.proofs.Common.{◌≡◌, ℕ, ◌+◌, ◌≤◌, true, false, ◌||◌, nat_lt, IsTrue, List, [], ◌∷◌, ◌++◌, length, map, cond}
+use Rattle.std.proofs.Common.{◌≡◌, ℕ, ◌+◌, ◌≤◌, Bool, true, false, ◌||◌, nat_lt, IsTrue, List, [], ◌∷◌, ◌++◌, length, map, cond}
 use Rattle.std.proofs.Common.{Result, Ok, Err, IfOk, refl, ◌∙◌, ap, arith, length-append}
-use Rattle.std.proofs.lemmas.List.{map-append}
+use Rattle.std.proofs.lemmas.List.{length-map, map-append}
 use Rattle.std.proofs.Math.Dec.{eqb-suc-zero}
 use Rattle.std.proofs.lemmas.Bool.{and_from, le-leb, le-ltb, ltb-false, or_from, or_parts}
-use Rattle.std.proofs.lemmas.List.Folds.{list_all-append}
+use Rattle.std.proofs.lemmas.List.Folds.{list_all-append, list_all-map}
 use Rattle.std.specs.List.{list_all}
+use Rattle.mesh_policy.proofs.Listed.{list_all-weaker}
 use Rattle.mesh_policy.specs.Sizes.{Size, is_over_limit, policy_size, size_of, sum_of}
 use Rattle.mesh_policy.specs.Workload.{Workload}
 use Rattle.mesh_policy.specs.declared.jwt.JwtRule.{JwtRule}
 use Rattle.mesh_policy.specs.declared.policy.Action.{Action}
 use Rattle.mesh_policy.specs.declared.policy.Action.TheVariants.{Allow, Deny, Audit}
 use Rattle.mesh_policy.specs.declared.policy.AuthorizationPolicy.{AuthorizationPolicy}
+use Rattle.mesh_policy.specs.declared.service.Protocol.{Protocol}
+use Rattle.mesh_policy.specs.declared.service.Protocol.TheVariants.{Http, Tcp}
 use Rattle.mesh_select.specs.Workload.{KeepsLimits}
 use Rattle.mesh_text.specs.declared.memory.Memory.{Memory}
-use Rattle.envoy_types.specs.FilterForms.{filters_are_printable, network_filter_is_printable}
+use Rattle.envoy_types.specs.FilterForms.{body_is_printable, filters_are_printable, http_filter_is_printable}
+use Rattle.envoy_types.specs.FilterForms.{network_filter_is_printable}
 use Rattle.envoy_types.specs.ListenerForms.{is_printable}
+use Rattle.envoy_types.specs.RbacForms.{rbac_is_printable}
+use Rattle.envoy_types.specs.declared.access.Rbac.{Rbac}
+use Rattle.envoy_types.specs.declared.chains.HttpFilter.TheVariants as http
 use Rattle.envoy_types.specs.declared.chains.Listener.{Listener}
-use Rattle.envoy_types.specs.declared.chains.NetworkFilter.{NetworkFilter}
-use Rattle.envoy_types.specs.declared.chains.NetworkFilter.TheVariants as filter
-use Rattle.authz_gen.specs.Laws.{TcpFiltersArePrintable}
-use Rattle.authz_gen.specs.Policies.{ArePoliciesOf, tcp_rbac}
-use Rattle.chain_build.specs.Filters.{filters_for, tcp_filters}
-use Rattle.chain_build.specs.Listener.{built, chains_with}
-use Rattle.chain_build.proofs.Enforced.{allow-policies, audit-policies, deny-policies}
+use Rattle.envoy_types.specs.declared.chains.NetworkFilter.TheVariants as network
+use Rattle.authz_gen.specs.Laws.{FiltersArePrintable}
+use Rattle.authz_gen.specs.Policies.{ArePoliciesOf, rbac_on}
+use Rattle.chain_build.specs.Filters.{body_on, rbac_filters, rbac_for}
+use Rattle.chain_build.specs.Listener.{built, chains_of}
+use Rattle.chain_build.proofs.Enforced.{enforced}
 use Rattle.chain_build.proofs.Printable.{all-count, all-distinct, all-fit}
 
 -- ---- the policies of each action keep the limits that all keep together
@@ -70,8 +76,16 @@ within-parts xs ys h =
     size-append (λ s. s.entries) refl (λ x xs. refl) xs ys in
     let bytes : (size (xs ++ ys)).bytes ≡ (size xs).bytes + (size ys).bytes =
     size-append (λ s. s.bytes) refl (λ x xs. refl) xs ys in (
-      record { values = omega (arith, h.values, values); entries = omega (arith, h.entries, entries); bytes = omega (arith, h.bytes, bytes) },
-      record { values = omega (arith, h.values, values); entries = omega (arith, h.entries, entries); bytes = omega (arith, h.bytes, bytes) },
+      record {
+        values = omega (arith, h.values, values);
+        entries = omega (arith, h.entries, entries);
+        bytes = omega (arith, h.bytes, bytes);
+      },
+      record {
+        values = omega (arith, h.values, values);
+        entries = omega (arith, h.entries, entries);
+        bytes = omega (arith, h.bytes, bytes);
+      },
     )
 
 -- with rules of tokens or without them
@@ -87,55 +101,76 @@ no-tokens policies h = not-over (size_of policies [])
 
 -- ---- filters
 
-abbrev Fits : List NetworkFilter → Type 0
-Fits filters = (length filters ≤ 1) × (list_all network_filter_is_printable filters ≡ true)
+abbrev Fits : List Rbac → Type 0
+Fits filters = (length filters ≤ 1) × (list_all rbac_is_printable filters ≡ true)
 
-filter-list : TcpFiltersArePrintable → (action : Action) (policies : List AuthorizationPolicy) → ArePoliciesOf action policies
-    → IsWithin (size policies) → Fits (filters_for action policies)
-unfolding network_filter_is_printable
-filter-list printable action [] h within = (omega arith, refl)
-filter-list printable action (p ∷ ps) h within =
-    let one : filters_for action (p ∷ ps) ≡ filter.Rbac (tcp_rbac action (p ∷ ps)) ∷ [] =
-    ap (λ b. cond b [] (filter.Rbac (tcp_rbac action (p ∷ ps)) ∷ [])) (eqb-suc-zero (length ps)) in
-    let count : length (filters_for action (p ∷ ps)) ≡ 1 = ap length one in
-    let fits = printable action (p ∷ ps) h (no-tokens (p ∷ ps) within) in
-    (omega (arith, count), ap (list_all network_filter_is_printable) one ∙ and_from _ _ fits refl)
+filter-list : FiltersArePrintable → (protocol : Protocol) (action : Action) (policies : List AuthorizationPolicy)
+    → ArePoliciesOf action policies → IsWithin (size policies) → Fits (rbac_for protocol action policies)
+filter-list printable protocol action [] h within = (omega arith, refl)
+filter-list printable protocol action (p ∷ ps) h within =
+    let made = rbac_on protocol action (p ∷ ps) in
+    let one : rbac_for protocol action (p ∷ ps) ≡ made ∷ [] = ap (λ b. cond b [] (made ∷ [])) (eqb-suc-zero (length ps)) in
+    let count : length (rbac_for protocol action (p ∷ ps)) ≡ 1 = ap length one in
+    let fits = printable protocol action (p ∷ ps) h (no-tokens (p ∷ ps) within) in
+    (omega (arith, count), ap (list_all rbac_is_printable) one ∙ and_from _ _ fits refl)
 
-joined-fit : (xs ys zs : List NetworkFilter) → Fits xs → Fits ys → Fits zs → filters_are_printable network_filter_is_printable
-    (xs ++ ys ++ zs) ≡ true
-joined-fit xs ys zs hx hy hz =
-    let count : length (xs ++ ys ++ zs) + 1 ≤ 8192 = omega (arith, hx.0, hy.0, hz.0, length-append (xs ++ ys) zs, length-append xs ys) in
-    and_from _ _ (le-leb (length (xs ++ ys ++ zs) + 1) 8192 count)
-    (list_all-append network_filter_is_printable (xs ++ ys) zs
-    ∙ and_from _ _ (list_all-append network_filter_is_printable xs ys ∙ and_from _ _ hx.1 hy.1) hz.1)
+-- one list of them for each action
+joined-fit : (xs ys zs : List Rbac) → Fits xs → Fits ys → Fits zs
+    → (length (xs ++ ys ++ zs) ≤ 3) × (list_all rbac_is_printable (xs ++ ys ++ zs) ≡ true)
+joined-fit xs ys zs hx hy hz = (
+  omega (arith, hx.0, hy.0, hz.0, length-append (xs ++ ys) zs, length-append xs ys),
+  list_all-append rbac_is_printable (xs ++ ys) zs
+      ∙ and_from _ _ (list_all-append rbac_is_printable xs ys ∙ and_from _ _ hx.1 hy.1) hz.1,
+)
 
-filters-fit : TcpFiltersArePrintable → (workload : Workload) → KeepsLimits workload
-    → filters_are_printable network_filter_is_printable (tcp_filters workload) ≡ true
-unfolding tcp_filters
-filters-fit printable workload limits =
+rbacs-fit : FiltersArePrintable → (workload : Workload) → KeepsLimits workload → (protocol : Protocol)
+    → (length (rbac_filters protocol workload) ≤ 3) × (list_all rbac_is_printable (rbac_filters protocol workload) ≡ true)
+unfolding rbac_filters
+rbacs-fit printable workload limits protocol =
     let policies = workload.allow ++ workload.deny ++ workload.audit ++ workload.custom in
     let all = without-tokens policies workload.jwt_rules (is-within (size_of policies workload.jwt_rules) limits.size) in
     let three = (within-parts (workload.allow ++ workload.deny ++ workload.audit) workload.custom all).0 in
     let two = within-parts (workload.allow ++ workload.deny) workload.audit three in
     let one = within-parts workload.allow workload.deny two.0 in
-    joined-fit (filters_for Audit workload.audit) (filters_for Deny workload.deny) (filters_for Allow workload.allow)
-    (filter-list printable Audit workload.audit (audit-policies workload limits workload.audit refl) two.1)
-    (filter-list printable Deny workload.deny (deny-policies workload limits workload.deny refl) one.1)
-    (filter-list printable Allow workload.allow (allow-policies workload limits workload.allow refl) one.0)
+    joined-fit (rbac_for protocol Audit workload.audit) (rbac_for protocol Deny workload.deny) (rbac_for protocol Allow workload.allow)
+    (filter-list printable protocol Audit workload.audit (enforced workload limits Audit (λ e. cc)) two.1)
+    (filter-list printable protocol Deny workload.deny (enforced workload limits Deny (λ e. cc)) one.1)
+    (filter-list printable protocol Allow workload.allow (enforced workload limits Allow (λ e. cc)) one.0)
+
+-- ---- what a chain does
+
+-- the filters of a chain, as a list of filters has each
+filters-fit : {F : Type 0} (kind : Rbac → F) (test : F → Bool) → ((rbac : Rbac) → test (kind rbac) ≡ rbac_is_printable rbac)
+    → (filters : List Rbac) → (length filters ≤ 3) × (list_all rbac_is_printable filters ≡ true)
+    → filters_are_printable test (map kind filters) ≡ true
+filters-fit kind test same filters fit =
+    let few : length filters ≤ 3 = fit.0 in
+    let count : length (map kind filters) + 1 ≤ 8192 = omega (arith, few, length-map filters kind) in
+    and_from _ _ (le-leb (length (map kind filters) + 1) 8192 count)
+    (list_all-map test kind filters ∙ list_all-weaker rbac_is_printable (λ rbac. test (kind rbac)) (λ rbac h. same rbac ∙ h) filters fit.1)
+
+bodies-fit : FiltersArePrintable → (workload : Workload) → KeepsLimits workload → (protocol : Protocol) (cluster : List ℕ)
+    → body_is_printable (body_on protocol workload cluster) ≡ true
+unfolding body_is_printable body_on network_filter_is_printable http_filter_is_printable
+bodies-fit printable workload limits Tcp cluster =
+    filters-fit network.Rbac network_filter_is_printable (λ rbac. refl) (rbac_filters Tcp workload)
+    (rbacs-fit printable workload limits Tcp)
+bodies-fit printable workload limits Http cluster =
+    filters-fit http.Rbac http_filter_is_printable (λ rbac. refl) (rbac_filters Http workload)
+    (rbacs-fit printable workload limits Http)
 
 -- ---- the listener
 
-pub built-printable : TcpFiltersArePrintable → (workload : Workload) → KeepsLimits workload → is_printable (built workload) ≡ true
-unfolding is_printable built chains_with
+pub built-printable : FiltersArePrintable → (workload : Workload) → KeepsLimits workload → is_printable (built workload) ≡ true
+unfolding is_printable built chains_of
 built-printable printable workload limits =
-    let filters = tcp_filters workload in
-    let count = all-count filters workload.other_mode workload.ports limits.ports in
+    let count = all-count workload workload.other_mode workload.ports limits.ports in
     and_from _ _ (and_from _ _ (and_from _ _ refl (and_from _ _ (le-leb 1 _ count.0) (le-leb _ 2048 (omega (arith, count.1)))))
-    (all-fit filters (filters-fit printable workload limits) workload.other_mode workload.ports limits.numbers))
-    (all-distinct filters workload.other_mode workload.ports limits.rising)
+    (all-fit workload (bodies-fit printable workload limits) workload.other_mode workload.ports limits.numbers))
+    (all-distinct workload workload.other_mode workload.ports limits.rising)
 
 -- where there was memory
-pub can-be-written : TcpFiltersArePrintable → (workload : Workload) → KeepsLimits workload
+pub can-be-written : FiltersArePrintable → (workload : Workload) → KeepsLimits workload
     → (r : Result Listener Memory) → IfOk r (λ listener. listener ≡ built workload) → IfOk r (λ listener. IsTrue (is_printable listener))
 can-be-written printable workload limits (Ok listener) e = ap is_printable e ∙ built-printable printable workload limits
 can-be-written printable workload limits (Err e) shape = tt

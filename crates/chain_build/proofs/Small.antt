@@ -1,6 +1,6 @@
 -- Values that are nested little and hold no float, and what is written of fields and lists of them.
-use Rattle.std.proofs.Common.{◌≡◌, ℕ, zero, suc, ◌≤◌, max, Bool, true, false, not, ◌&&◌, ◌||◌, List, [], ◌∷◌, map, Option, None, Some}
-use Rattle.std.proofs.Common.{refl, ◌∙◌, ap, arith}
+use Rattle.std.proofs.Common.{◌≡◌, ℕ, zero, suc, ◌≤◌, max, Bool, true, false, not, ◌&&◌, ◌||◌, List, [], ◌∷◌, ◌++◌, map}
+use Rattle.std.proofs.Common.{Option, None, Some, refl, ◌∙◌, ap, arith}
 use Rattle.std.proofs.lemmas.Bool.{and_parts, and_from}
 use Rattle.std.specs.Cmp.Lexicographic.{slice_cmp}
 use Rattle.std.specs.List.{list_all}
@@ -106,6 +106,10 @@ mutual
   members-deeper n no_members h = refl
   members-deeper n (member k d ms) h = and_from _ _ (small-deeper n d (and_parts _ _ h).0) (members-deeper n ms (and_parts _ _ h).1)
 
+-- three more levels go as well
+pub small-deeper-3 : (n : ℕ) (d : Data) → is_small n d ≡ true → is_small (suc (suc (suc n))) d ≡ true
+small-deeper-3 n d h = small-deeper (suc (suc n)) d (small-deeper (suc n) d (small-deeper n d h))
+
 -- ---- objects
 
 put-small : (n : ℕ) (k : List ℕ) (d : Data) (ms : Members) → is_small n d ≡ true → members_small n ms ≡ true
@@ -162,6 +166,14 @@ module _ {A : Type 0} (written : A → Data) where
   pub list-small : (n : ℕ) (xs : List A) → each_small n xs ≡ true → is_small (suc n) (list_written written xs) ≡ true
   unfolding list_written
   list-small n xs h = items-small n xs ∙ h
+
+  -- with another value behind them
+  pub ended-small : (n : ℕ) (xs : List A) (last : Data) → each_small n xs ≡ true → is_small n last ≡ true
+      → items_small n (items_of (map written xs ++ last ∷ [])) ≡ true
+  ended-small n [] last h k = and_from _ _ k refl
+  ended-small n (x ∷ xs) last h k =
+      let both = and_parts (is_small n (written x)) (each_small n xs) h in
+      and_from _ _ both.0 (ended-small n xs last both.1 k)
 
   named-onto : (name : A → List ℕ) (n : ℕ) (xs : List A) → each_small n xs ≡ true
       → members_small n (named_onto name written no_members xs) ≡ true

@@ -1,43 +1,40 @@
-// The filter chains of a port by its mutual TLS mode.
+// The filter chains of a port by what it speaks and its mutual TLS mode.
 ghost use Rattle.std.specs.Prelude.{◌≡◌, ◌++◌, ◌∷◌, [], true, false, Some, None, codes, IfOk, OnOk};
 ghost use Rattle.mesh_policy.specs.Connection as connection;
 ghost use Rattle.envoy_types.specs.declared.chains.Transport.TheVariants as transport;
+ghost use Rattle.chain_build.specs.Buildable.{IsBuildable};
 ghost use Rattle.chain_build.specs.Chains as meaning;
-ghost use Rattle.chain_build.specs.Filters.{tcp_filters as filters_of};
+ghost use Rattle.chain_build.specs.Filters.{body_on as body_of};
+ghost use Rattle.chain_build.specs.Listener.{chains_at};
 
-use crate::filters::tcp_filters;
-use envoy_types::{ChainBody, ChainMatch, FilterChain, Transport};
-use mesh_policy::{MESH_PROTOCOLS, Mode};
+use crate::filters::body_on;
+use envoy_types::{ChainMatch, FilterChain, Transport};
+use mesh_policy::{MESH_PROTOCOLS, Mode, Protocol};
 use mesh_select::Workload;
 use mesh_text::{List, Memory, Text};
 use std::alloc::Global;
 
 // Adds the chains of a port, or of the ports that are not listed.
-#[tactic(auto, unfolding(crate::specs::Chains::tcp_chains))]
+#[tactic(auto, unfolding(crate::specs::Chains::chains_on))]
 pub fn push_chains(
     alloc: Global,
     chains: &mut List<FilterChain>,
     workload: &Workload,
-    port: Option<u16>,
+    protocol: Protocol,
     mode: Mode,
+    port: Option<u16>,
 ) -> Result<(), Memory>
-    ensures { OnOk result (chains.new ≡ chains.old ++ meaning.tcp_chains mode port (filters_of workload.now)) }
+    requires { IsBuildable workload.now }
+    ensures { OnOk result (chains.new ≡ chains.old ++ chains_at workload.now protocol mode port) }
 {
     match mode {
-        Mode::Strict => {
-            chains.push(strict_chain(alloc, workload, port)?)?;
-            Ok(())
-        }
+        Mode::Strict => chains.push(strict_chain(alloc, workload, protocol, port)?),
         Mode::Permissive => {
-            chains.push(mutual_chain(alloc, workload, port)?)?;
-            chains.push(plain_chain(alloc, workload, port)?)?;
-            chains.push(opaque_chain(alloc, workload, port)?)?;
-            Ok(())
+            chains.push(mutual_chain(alloc, workload, protocol, port)?)?;
+            chains.push(plain_chain(alloc, workload, protocol, port)?)?;
+            push_opaque(alloc, chains, workload, protocol, port)
         }
-        Mode::Disable => {
-            chains.push(open_chain(alloc, workload, port)?)?;
-            Ok(())
-        }
+        Mode::Disable => chains.push(open_chain(alloc, workload, protocol, port)?),
     }
 }
 
@@ -45,54 +42,103 @@ pub fn push_chains(
 fn strict_chain(
     alloc: Global,
     workload: &Workload,
+    protocol: Protocol,
     port: Option<u16>,
 ) -> Result<FilterChain, Memory>
-    ensures { IfOk result (λ c. c ≡ meaning.tcp_chain port (codes "-mtls") (Some transport.Tls) [] true (filters_of workload.now)) }
+    requires { IsBuildable workload.now }
+    ensures { IfOk result (λ c. c ≡ meaning.chain_for_port port (codes "-mtls") (Some transport.Tls) [] true
+        (body_of protocol workload.now (meaning.cluster_of port))) }
 {
     let matching = matching(port, Some(Transport::Tls), List::new(alloc));
-    tcp_chain(alloc, workload, "-mtls", matching, true)
+    chain_for_port(alloc, workload, protocol, "-mtls", matching, true)
 }
 
 // Mutual TLS of the sidecars of the mesh.
 fn mutual_chain(
     alloc: Global,
     workload: &Workload,
+    protocol: Protocol,
     port: Option<u16>,
 ) -> Result<FilterChain, Memory>
-    ensures { IfOk result (λ c. c
-        ≡ meaning.tcp_chain port (codes "-mtls") (Some transport.Tls) connection.mesh_names true (filters_of workload.now)) }
+    requires { IsBuildable workload.now }
+    ensures { IfOk result (λ c. c ≡ meaning.chain_for_port port (codes "-mtls") (Some transport.Tls) connection.mesh_names true
+        (body_of protocol workload.now (meaning.cluster_of port))) }
 {
     let matching = matching(port, Some(Transport::Tls), mesh_names(alloc)?);
-    tcp_chain(alloc, workload, "-mtls", matching, true)
+    chain_for_port(alloc, workload, protocol, "-mtls", matching, true)
 }
 
 // Plain text.
-fn plain_chain(alloc: Global, workload: &Workload, port: Option<u16>) -> Result<FilterChain, Memory>
-    ensures { IfOk result (λ c. c
-        ≡ meaning.tcp_chain port (codes "-plain") (Some transport.RawBuffer) [] false (filters_of workload.now)) }
+fn plain_chain(
+    alloc: Global,
+    workload: &Workload,
+    protocol: Protocol,
+    port: Option<u16>,
+) -> Result<FilterChain, Memory>
+    requires { IsBuildable workload.now }
+    ensures { IfOk result (λ c. c ≡ meaning.chain_for_port port (codes "-plain") (Some transport.RawBuffer) [] false
+        (body_of protocol workload.now (meaning.cluster_of port))) }
 {
     let matching = matching(port, Some(Transport::RawBuffer), List::new(alloc));
-    tcp_chain(alloc, workload, "-plain", matching, false)
+    chain_for_port(alloc, workload, protocol, "-plain", matching, false)
 }
 
-// TLS that no other chain takes, which is passed on unread.
+// Adds the chain for TLS that no other chain takes, which only a TCP port has.
+fn push_opaque(
+    alloc: Global,
+    chains: &mut List<FilterChain>,
+    workload: &Workload,
+    protocol: Protocol,
+    port: Option<u16>,
+) -> Result<(), Memory>
+    requires { IsBuildable workload.now }
+    ensures { OnOk result (chains.new
+        ≡ chains.old ++ meaning.opaque_chains protocol port (body_of protocol workload.now (meaning.cluster_of port))) }
+{
+    match protocol {
+        Protocol::Tcp => chains.push(opaque_chain(alloc, workload, protocol, port)?),
+        Protocol::Http => Ok(()),
+    }
+}
+
+// TLS that is passed on unread.
 fn opaque_chain(
     alloc: Global,
     workload: &Workload,
+    protocol: Protocol,
     port: Option<u16>,
 ) -> Result<FilterChain, Memory>
-    ensures { IfOk result (λ c. c ≡ meaning.tcp_chain port (codes "-opaque") (Some transport.Tls) [] false (filters_of workload.now)) }
+    requires { IsBuildable workload.now }
+    ensures { IfOk result (λ c. c ≡ meaning.chain_for_port port (codes "-opaque") (Some transport.Tls) [] false
+        (body_of protocol workload.now (meaning.cluster_of port))) }
 {
     let matching = matching(port, Some(Transport::Tls), List::new(alloc));
-    tcp_chain(alloc, workload, "-opaque", matching, false)
+    chain_for_port(alloc, workload, protocol, "-opaque", matching, false)
 }
 
-// Plain text, and TLS that is passed on unread.
-fn open_chain(alloc: Global, workload: &Workload, port: Option<u16>) -> Result<FilterChain, Memory>
-    ensures { IfOk result (λ c. c ≡ meaning.tcp_chain port (codes "-plain") None [] false (filters_of workload.now)) }
+// What a port without mutual TLS takes.
+fn open_chain(
+    alloc: Global,
+    workload: &Workload,
+    protocol: Protocol,
+    port: Option<u16>,
+) -> Result<FilterChain, Memory>
+    requires { IsBuildable workload.now }
+    ensures { IfOk result (λ c. c ≡ meaning.chain_for_port port (codes "-plain") (meaning.open_transport protocol) [] false
+        (body_of protocol workload.now (meaning.cluster_of port))) }
 {
-    let matching = matching(port, None, List::new(alloc));
-    tcp_chain(alloc, workload, "-plain", matching, false)
+    let matching = matching(port, open_transport(protocol), List::new(alloc));
+    chain_for_port(alloc, workload, protocol, "-plain", matching, false)
+}
+
+// A TCP port takes what comes, an HTTP port plain text.
+fn open_transport(protocol: Protocol) -> Option<Transport>
+    ensures { result ≡ meaning.open_transport protocol }
+{
+    match protocol {
+        Protocol::Tcp => None,
+        Protocol::Http => Some(Transport::RawBuffer),
+    }
 }
 
 fn matching(port: Option<u16>, transport: Option<Transport>, alpn: List<Text>) -> ChainMatch
@@ -117,25 +163,27 @@ fn mesh_names(alloc: Global) -> Result<List<Text>, Memory>
 }
 
 // A chain to the cluster of its port, with the filters of the workload.
-#[tactic(auto, unfolding(crate::specs::Chains::tcp_chain))]
-fn tcp_chain(
+#[tactic(auto, unfolding(crate::specs::Chains::chain_for_port))]
+fn chain_for_port(
     alloc: Global,
     workload: &Workload,
+    protocol: Protocol,
     ending: &str,
     matching: ChainMatch,
     mutual_tls: bool,
 ) -> Result<FilterChain, Memory>
-    ensures { IfOk result (λ c. c
-        ≡ meaning.tcp_chain matching.port ending.now matching.transport matching.alpn mutual_tls (filters_of workload.now)) }
+    requires { IsBuildable workload.now }
+    ensures { IfOk result (λ c. c ≡ meaning.chain_for_port matching.port ending.now matching.transport matching.alpn mutual_tls
+        (body_of protocol workload.now (meaning.cluster_of matching.port))) }
 {
     let name = chain_name(alloc, matching.port, ending)?;
     let cluster = cluster_of(alloc, matching.port)?;
-    let filters = tcp_filters(alloc, workload)?;
+    let body = body_on(alloc, protocol, workload, cluster)?;
     Ok(FilterChain {
         name,
         matching,
         mutual_tls,
-        body: ChainBody::Tcp { filters, cluster },
+        body,
     })
 }
 

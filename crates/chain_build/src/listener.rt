@@ -4,24 +4,23 @@ ghost use Rattle.serde_json.specs.Data.{depth};
 ghost use Rattle.serde_json.specs.Written.{has_float};
 ghost use Rattle.mesh_policy.specs.Verdicts.{verdict_of};
 ghost use Rattle.mesh_policy.specs.WellFormedCase.{WellFormedCase};
-ghost use Rattle.mesh_policy.specs.Workload.{listed_of, mode_of};
+ghost use Rattle.mesh_policy.specs.Workload.{listed_of, mode_of, protocol_of};
 ghost use Rattle.mesh_policy.specs.declared.case.Case.{Case};
 ghost use Rattle.envoy_types.specs.ListenerForms.{is_printable, listener_written};
 ghost use Rattle.envoy_types.specs.ListenerVerdict.{envoy_verdict};
 ghost use Rattle.chain_build.specs.Buildable.{IsBuildable};
-ghost use Rattle.chain_build.specs.Chains.{tcp_chains};
-ghost use Rattle.chain_build.specs.Filters.{tcp_filters};
 ghost use Rattle.chain_build.specs.Listener as meaning;
 
 use crate::chains::push_chains;
-use authz_gen::tcp_filters_enforce;
+use authz_gen::filters_enforce;
 use envoy_types::{FilterChain, Listener};
+use mesh_policy::Protocol;
 use mesh_select::Workload;
 use mesh_text::{List, Memory, Text};
 use std::alloc::Global;
 
-/// The listener of a workload. It has the chains of each listed port, ascending, by the port's mode, and then those of all
-/// other ports, which name none. It can be written as JSON, which is nested at most 126 deep, and gives each well-formed
+/// The listener of a workload. It has the chains of each listed port, ascending, by what the port speaks and its mode, and then those
+/// of all other ports, which name none. It can be written as JSON, which is nested at most 126 deep, and gives each well-formed
 /// connection the verdict of the policies.
 pub fn build(alloc: Global, w: &Workload) -> Result<Listener, Memory>
     requires { IsBuildable w.now }
@@ -33,15 +32,16 @@ pub fn build(alloc: Global, w: &Workload) -> Result<Listener, Memory>
         (case : Case) → WellFormedCase case w.now.jwt_rules → envoy_verdict listener case ≡ verdict_of w.now case) }
 {
     w.limits();
-    tcp_filters_enforce();
+    filters_enforce();
     built(alloc, w)
 }
 
 #[tactic(auto, unfolding(crate::specs::Listener::built))]
 fn built(alloc: Global, workload: &Workload) -> Result<Listener, Memory>
+    requires { IsBuildable workload.now }
     ensures { IfOk result (λ listener. listener ≡ meaning.built workload.now) }
 {
-    let chains = chains(alloc, workload)?;
+    let chains = chains_of(alloc, workload)?;
     Ok(Listener {
         name: Text::of(alloc, "virtualInbound")?,
         address: Text::of(alloc, "0.0.0.0")?,
@@ -50,31 +50,37 @@ fn built(alloc: Global, workload: &Workload) -> Result<Listener, Memory>
     })
 }
 
-#[tactic(auto, unfolding(crate::specs::Listener::chains_with))]
-fn chains(alloc: Global, workload: &Workload) -> Result<List<FilterChain>, Memory>
-    ensures { IfOk result (λ chains. chains ≡ meaning.chains_with workload.now (tcp_filters workload.now)) }
+// Those of the listed ports, and behind them those of all other ports, which speak TCP.
+fn chains_of(alloc: Global, workload: &Workload) -> Result<List<FilterChain>, Memory>
+    requires { IsBuildable workload.now }
+    ensures { IfOk result (λ chains. chains ≡ meaning.chains_of workload.now) }
 {
     workload.limits();
     let mut chains = listed_chains(alloc, workload)?;
-    push_chains(alloc, &mut chains, workload, None, workload.other_mode())?;
+    let other_mode = workload.other_mode();
+    push_chains(
+        alloc,
+        &mut chains,
+        workload,
+        Protocol::Tcp,
+        other_mode,
+        None,
+    )?;
     Ok(chains)
 }
 
-// The chains of the listed ports.
 fn listed_chains(alloc: Global, workload: &Workload) -> Result<List<FilterChain>, Memory>
-    ensures { IfOk result (λ chains. chains
-        ≡ flat_map (λ port. tcp_chains (mode_of workload.now port) (Some port) (tcp_filters workload.now)) (listed_of workload.now)) }
+    requires { IsBuildable workload.now }
+    ensures { IfOk result (λ chains. chains ≡ flat_map
+        (λ port. meaning.chains_at workload.now (protocol_of workload.now port) (mode_of workload.now port) (Some port))
+        (listed_of workload.now)) }
 {
     let mut chains = List::new(alloc);
     let listed = workload.listed();
     for port in listed.iter() {
-        push_chains(
-            alloc,
-            &mut chains,
-            workload,
-            Some(*port),
-            workload.mode(*port),
-        )?;
+        let protocol = workload.protocol(*port);
+        let mode = workload.mode(*port);
+        push_chains(alloc, &mut chains, workload, protocol, mode, Some(*port))?;
     }
     Ok(chains)
 }

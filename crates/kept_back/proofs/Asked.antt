@@ -1,35 +1,103 @@
--- What a policy or a Service asks of which nothing is kept back. The lemmas have the names of what they speak of.
-use Rattle.std.proofs.Common.{◌≡◌, ℕ, Bool, true, false, cond, not, ◌||◌, ◌⊎◌, inl, inr, List, Option, Some, None, All, refl, ap, subst}
-use Rattle.std.proofs.lemmas.Bool.{or_cases}
+-- What a policy asks for of which nothing is kept back. The lemmas have the names of what they speak of.
+use Rattle.std.proofs.Common.{◌≡◌, ℕ, Bool, true, false, not, ◌&&◌, ◌||◌, ◌⊎◌, inl, inr, List, [], ◌∷◌, Option, Some, None}
+use Rattle.std.proofs.Common.{unwrap_or, refl, ap}
+use Rattle.std.proofs.lemmas.Bool.{and_from, not_from_false, not-true, or_cases, or_from}
+use Rattle.std.proofs.lemmas.List.Folds.{list_any_none}
 use Rattle.std.proofs.lemmas.Slice.Eq.{bytes_eq-Decides}
-use Rattle.std.specs.Option.{ForSome}
+use Rattle.std.specs.List.{list_any}
 use Rattle.std.specs.Str.{bytes_eq}
-use Rattle.serde_json.specs.Data.{Data}
+use Rattle.serde_json.specs.Data.{Data, null, boolean, number, string, array, object, no_items, item}
 use Rattle.mesh_doc.proofs.NoFault as no_fault
-use Rattle.mesh_doc.proofs.NoFault.{Ensures, earlier, listed, optional_or, passed}
-use Rattle.mesh_doc.specs.Faults.{first, none, unless}
+use Rattle.mesh_doc.proofs.NoFault.{Ensures, earlier, later, listed, optional_or, passed}
+use Rattle.mesh_doc.specs.Faults.{first, none}
+use Rattle.mesh_doc.specs.Fields.{field_in, found_faults, optional, required_in}
 use Rattle.mesh_doc.specs.Kinds.{text_in}
-use Rattle.mesh_doc.specs.Places.{Steps}
-use Rattle.mesh_doc.specs.declared.reason.Reason.{Reason}
-use Rattle.manifest_json.proofs.AcceptedForms.{kept_list}
+use Rattle.mesh_doc.specs.Lists.{found_list, list_in, listed_in}
+use Rattle.mesh_doc.specs.Places.{Steps, at_key}
 use Rattle.manifest_json.specs.PolicyItems.{authorization_item_in}
-use Rattle.manifest_json.specs.Ports.{has_other_protocol}
-use Rattle.manifest_json.specs.Service.{service_in, service_port_in, service_spec_in}
-use Rattle.mesh_policy.specs.Ports.{is_http, protocol_of}
+use Rattle.mesh_policy.specs.RuleHolds.{is_written, source_needs_http}
 use Rattle.mesh_policy.specs.Workload.{is_action}
 use Rattle.mesh_policy.specs.declared.policy.Action.{Action}
 use Rattle.mesh_policy.specs.declared.policy.Action.TheVariants.{Allow, Deny, Custom}
 use Rattle.mesh_policy.specs.declared.policy.AuthorizationPolicy.{AuthorizationPolicy}
-use Rattle.mesh_policy.specs.declared.service.Protocol.{Protocol}
-use Rattle.mesh_policy.specs.declared.service.Protocol.TheVariants.{Http, Tcp}
-use Rattle.mesh_policy.specs.declared.service.Service.{Service}
-use Rattle.mesh_policy.specs.declared.service.ServicePort.{ServicePort}
+use Rattle.authz_gen.specs.Policies.{condition_needs_token, needs_token}
 use Rattle.policy_json.specs.Authorization.{action_in, action_of, authorization_in}
-use Rattle.kept_back.specs.Policies.{action_kept, is_decided_word, policy_kept, spec_kept}
-use Rattle.kept_back.specs.Services.{port_kept, ports_kept, service_kept, speaks_http}
+use Rattle.policy_json.specs.ConditionKeys.{key_in}
+use Rattle.policy_json.specs.Conditions.{condition_in, values_in}
+use Rattle.policy_json.specs.Rules.{from_in, rule_in}
+use Rattle.policy_json.specs.Sources.{source_in}
+use Rattle.policy_json.specs.TargetRefs.{is_empty_list}
+use Rattle.policy_json.specs.declared.condition_keys.ConditionKey.{ConditionKey}
+use Rattle.policy_json.specs.declared.condition_keys.ConditionKey.TheVariants as key
+use Rattle.kept_back.specs.Fields.{kept_unless, no_entries}
+use Rattle.kept_back.specs.Policies.{action_kept, condition_kept, from_kept, is_decided_word}
+use Rattle.kept_back.specs.Policies.{is_token_key, policy_kept, rule_kept, source_kept, spec_kept}
 use Rattle.kept_back.specs.declared.items.TheConstants.{SPEC}
-use Rattle.kept_back.specs.declared.policies.TheConstants.{ACTION, ALLOW, DENY}
-use Rattle.kept_back.specs.declared.services.TheConstants.{PORTS}
+use Rattle.kept_back.specs.declared.policies.TheConstants.{ACTION, ALLOW, DENY, FROM}
+use Rattle.kept_back.specs.declared.policies.TheConstants.{KEY, NOT_REQUEST_PRINCIPALS, REQUEST_PRINCIPALS, RULES}
+use Rattle.kept_back.specs.declared.policies.TheConstants.{SOURCE, WHEN}
+use Rattle.kept_back.proofs.Keys.{needs, needs_none}
+
+-- ---- sources
+
+no_entry : {A : Type 0} (value : Data → A) (d : Data) → is_empty_list d ≡ true → list_in value d ≡ []
+unfolding list_in
+no_entry value null h = cc
+no_entry value (boolean b) h = cc
+no_entry value (number n) h = cc
+no_entry value (string s) h = cc
+no_entry value (array no_items) h = refl
+no_entry value (array (item d ds)) h = cc
+no_entry value (object ms) h = cc
+
+unwritten : {A : Type 0} (value : Data → A) (o : Option Data) (at : Steps)
+    → first (found_faults none (kept_unless is_empty_list) o at) ≡ None → is_written (found_list value o) ≡ false
+unwritten value None at h = refl
+unwritten value (Some d) at h = ap (λ xs. is_written xs) (no_entry value d (passed (is_empty_list d) _ at h))
+
+list : {A : Type 0} (value : Data → A) (name : List ℕ) → Ensures (no_entries name) (listed_in name value) (λ xs. is_written xs ≡ false)
+unfolding no_entries optional listed_in
+list value name = record { holds = λ d at h. unwritten value (field_in name d) (at_key name at) h }
+
+source : Ensures source_kept source_in (λ s. source_needs_http s ≡ false)
+unfolding source_kept source_in
+source = record {
+  holds = λ d at h.
+      or_from _ _ ((list text_in REQUEST_PRINCIPALS.now).holds d at (earlier _ _ h))
+      ((list text_in NOT_REQUEST_PRINCIPALS.now).holds d at (later _ _ h));
+}
+
+entry : Ensures from_kept from_in (λ s. source_needs_http s ≡ false)
+unfolding from_kept from_in
+entry = no_fault.or_empty SOURCE.now source
+
+-- ---- conditions
+
+values : (k : ConditionKey) (d : Data) → needs k ≡ false → condition_needs_token (values_in k d) ≡ false
+values (key.Words word) d h = h
+values key.Principals d h = h
+values (key.Blocks address) d h = refl
+values key.Ports d h = refl
+
+told : (o : Option Data) (at : Steps) → first (found_faults none (kept_unless (λ d. not (is_token_key d))) o at) ≡ None
+    → needs (key_in (unwrap_or o null)) ≡ false
+unfolding is_token_key key_in text_in
+told None at h = needs_none (text_in null) refl
+told (Some d) at h = needs_none (text_in d) (not-true _ (passed (not (is_token_key d)) _ at h))
+
+condition : Ensures condition_kept condition_in (λ c. condition_needs_token c ≡ false)
+unfolding condition_kept condition_in optional required_in
+condition = record { holds = λ d at h. values _ d (told (field_in KEY.now d) (at_key KEY.now at) h) }
+
+-- ---- rules
+
+rule : Ensures rule_kept rule_in (λ r. needs_token r ≡ false)
+unfolding rule_kept rule_in
+rule = record {
+  holds = λ d at h.
+      or_from _ _ (list_any_none source_needs_http _ ((listed FROM.now 2048 entry).holds d at (earlier _ _ h)).each)
+      (list_any_none condition_needs_token _ ((listed WHEN.now 2048 condition).holds d at (later _ _ h)).each);
+}
 
 -- ---- policies
 
@@ -55,49 +123,26 @@ action = record {
       of_word d (or_cases (bytes_eq (text_in d) ALLOW.now) (bytes_eq (text_in d) DENY.now) (passed _ _ at h));
 }
 
-spec : (name namespace : List ℕ) → Ensures spec_kept (authorization_in name namespace) (λ p. not_custom p.action)
-unfolding spec_kept authorization_in
-spec name namespace = record {
-  holds = λ d at h. (optional_or ACTION.now Allow refl action).holds d at (earlier _ _ h);
-}
-
 -- no authorizer is asked for it
 abbrev pub asks_nobody : AuthorizationPolicy → Bool
 asks_nobody policy = not (is_action Custom policy.action)
 
-pub policy : Ensures policy_kept authorization_item_in (λ p. asks_nobody p ≡ true)
-unfolding policy_kept authorization_item_in
-policy = record { holds = λ d at h. (no_fault.or_empty SPEC.now (spec _ _)).holds d at h }
+-- none of its rules asks for a token
+abbrev pub asks_no_token : AuthorizationPolicy → Bool
+asks_no_token policy = not (list_any needs_token policy.rules)
 
--- ---- Services
+-- a policy of which nothing is kept back
+abbrev pub is_told : AuthorizationPolicy → Bool
+is_told policy = asks_nobody policy && asks_no_token policy
 
-of_tcp : (p : Protocol) → not (is_http p) ≡ true → p ≡ Tcp
-of_tcp Http h = cc
-of_tcp Tcp h = refl
-
-port_by : (passed_over : Bool) (entry : ServicePort) (reason : Reason) (at : Steps)
-    → first (cond passed_over none (unless (not (is_http (protocol_of entry))) reason at)) ≡ None
-    → ForSome (cond passed_over None (Some entry)) (λ e. protocol_of e ≡ Tcp)
-port_by true entry reason at h e is = cc
-port_by false entry reason at h e is =
-    let same : entry ≡ e = cc in
-    subst (λ e. protocol_of e ≡ Tcp) same (of_tcp (protocol_of entry) (passed _ _ at h))
-
-port : Ensures port_kept service_port_in (λ o. ForSome o (λ e. protocol_of e ≡ Tcp))
-unfolding port_kept service_port_in speaks_http
-port = record { holds = λ d at h. port_by (has_other_protocol d) _ _ at h }
-
--- no port carries HTTP
-abbrev pub IsTcpService : Service → Type 0
-IsTcpService service = All (λ entry. protocol_of entry ≡ Tcp) service.ports
-
-ports : Ensures ports_kept service_spec_in (λ s. All (λ entry. protocol_of entry ≡ Tcp) s.ports)
-unfolding ports_kept service_spec_in
-ports = record {
+spec : (name namespace : List ℕ) → Ensures spec_kept (authorization_in name namespace) (λ p. is_told p ≡ true)
+unfolding spec_kept authorization_in
+spec name namespace = record {
   holds = λ d at h.
-      (kept_list 2048 (λ entry. protocol_of entry ≡ Tcp) _ ((listed PORTS.now 2048 port).holds d at h)).each;
+      and_from _ _ ((optional_or ACTION.now Allow refl action).holds d at (earlier _ _ h))
+      (not_from_false _ (list_any_none needs_token _ ((listed RULES.now 2048 rule).holds d at (later _ _ h)).each));
 }
 
-pub service : Ensures service_kept service_in IsTcpService
-unfolding service_kept service_in
-service = record { holds = λ d at h. (no_fault.or_empty SPEC.now ports).holds d at h }
+pub policy : Ensures policy_kept authorization_item_in (λ p. is_told p ≡ true)
+unfolding policy_kept authorization_item_in
+policy = record { holds = λ d at h. (no_fault.or_empty SPEC.now (spec _ _)).holds d at h }

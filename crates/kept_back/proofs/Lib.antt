@@ -1,4 +1,5 @@
 pub mod Asked
 pub mod ItemKinds
+pub mod Keys
 pub mod Taken
 pub mod Workloads

@@ -1,4 +1,4 @@
--- Manifests of which nothing is kept back: their policies and their Services.
+-- Manifests of which nothing is kept back: their AuthorizationPolicies are told, and there is no RequestAuthentication.
 use Rattle.std.proofs.Common.{◌≡◌, Bool, true, false, cond, List, [], ◌∷◌, Option, Some, None, filter_map, option_map, All, refl}
 use Rattle.std.proofs.lemmas.List.Elements.{All-cons, All-head, All-nil, All-tail}
 use Rattle.std.proofs.lemmas.List.Sums.{list_all-from_AllPass}
@@ -11,28 +11,28 @@ use Rattle.mesh_doc.specs.Lists.{listed_in}
 use Rattle.mesh_doc.specs.Places.{Steps}
 use Rattle.mesh_doc.specs.declared.fault.Fault.{Fault}
 use Rattle.manifest_json.specs.Document.{bundle_in, is_list, items_in}
-use Rattle.manifest_json.specs.Gather.{as_authorization, as_service}
+use Rattle.manifest_json.specs.Gather.{as_authorization, as_request}
 use Rattle.manifest_json.specs.Items.{item_in, kind_in, kind_value, known_value}
 use Rattle.manifest_json.specs.declared.items.Item.{Item}
 use Rattle.manifest_json.specs.declared.items.Item.TheVariants as item
 use Rattle.manifest_json.specs.declared.key.Kind.{Kind}
 use Rattle.manifest_json.specs.declared.key.Kind.TheVariants as kind
 use Rattle.mesh_policy.specs.declared.bundle.Bundle.{Bundle}
+use Rattle.mesh_policy.specs.declared.jwt.RequestAuthentication.{RequestAuthentication}
 use Rattle.mesh_policy.specs.declared.policy.AuthorizationPolicy.{AuthorizationPolicy}
-use Rattle.mesh_policy.specs.declared.service.Service.{Service}
 use Rattle.kept_back.specs.Items.{item_kept, kind_kept}
 use Rattle.kept_back.specs.Manifests.{document_kept, not_yet}
 use Rattle.kept_back.specs.declared.manifests.TheConstants.{ITEMS}
-use Rattle.kept_back.proofs.Asked.{IsTcpService, asks_nobody, policy, service}
+use Rattle.kept_back.proofs.Asked.{is_told, policy}
 
 -- ---- items
 
 TakenItem : Item → Type 0
 TakenItem (item.Pod p) = Unit {0}
-TakenItem (item.Service s) = IsTcpService s
-TakenItem (item.Authorization p) = asks_nobody p ≡ true
+TakenItem (item.Service s) = Unit {0}
+TakenItem (item.Authorization p) = is_told p ≡ true
 TakenItem (item.Peer p) = Unit {0}
-TakenItem (item.Request r) = Unit {0}
+TakenItem (item.Request r) = true ≡ false
 TakenItem (item.Mesh m) = Unit {0}
 TakenItem item.Other = Unit {0}
 
@@ -40,10 +40,10 @@ of_kind : (k : Option Kind) (d : Data) (at : Steps) → first (kind_kept k d at)
 unfolding TakenItem kind_value
 of_kind None d at h = tt
 of_kind (Some kind.Pod) d at h = tt
-of_kind (Some kind.Service) d at h = service.holds d at h
+of_kind (Some kind.Service) d at h = tt
 of_kind (Some kind.Authorization) d at h = policy.holds d at h
 of_kind (Some kind.Peer) d at h = tt
-of_kind (Some kind.Request) d at h = tt
+of_kind (Some kind.Request) d at h = cc
 of_kind (Some kind.Mesh) d at h = tt
 of_kind (Some kind.Other) d at h = tt
 
@@ -65,39 +65,39 @@ taken_items d h = of_items (is_list d) d [] h
 
 -- ---- the bundle
 
--- No policy asks for an authorizer, and no port of a Service carries HTTP.
+-- No policy asks for an authorizer or for a token, and nothing says which tokens are valid.
 pub record IsTaken (bundle : Bundle) : Type 0 where
-  pub policies : list_all asks_nobody bundle.authorization ≡ true
-  pub services : All IsTcpService bundle.services
+  pub policies : list_all is_told bundle.authorization ≡ true
+  pub requests : bundle.requests ≡ []
 
-next_policy : (x : Item) (rest : List AuthorizationPolicy) → TakenItem x → All (λ p. asks_nobody p ≡ true) rest
-    → All (λ p. asks_nobody p ≡ true) (cons_option (as_authorization x) rest)
+next_policy : (x : Item) (rest : List AuthorizationPolicy) → TakenItem x → All (λ p. is_told p ≡ true) rest
+    → All (λ p. is_told p ≡ true) (cons_option (as_authorization x) rest)
 unfolding TakenItem
 next_policy (item.Pod p) rest t h = h
 next_policy (item.Service s) rest t h = h
-next_policy (item.Authorization p) rest t h = All-cons (λ p. asks_nobody p ≡ true) p rest t h
+next_policy (item.Authorization p) rest t h = All-cons (λ p. is_told p ≡ true) p rest t h
 next_policy (item.Peer p) rest t h = h
 next_policy (item.Request r) rest t h = h
 next_policy (item.Mesh m) rest t h = h
 next_policy item.Other rest t h = h
 
-policies_of : (items : List Item) → All TakenItem items → All (λ p. asks_nobody p ≡ true) (filter_map as_authorization items)
-policies_of [] h = All-nil (λ p. asks_nobody p ≡ true)
+policies_of : (items : List Item) → All TakenItem items → All (λ p. is_told p ≡ true) (filter_map as_authorization items)
+policies_of [] h = All-nil (λ p. is_told p ≡ true)
 policies_of (x ∷ xs) h = next_policy x _ (All-head TakenItem x xs h) (policies_of xs (All-tail TakenItem x xs h))
 
-next_service : (x : Item) (rest : List Service) → TakenItem x → All IsTcpService rest → All IsTcpService (cons_option (as_service x) rest)
+next_request : (x : Item) (rest : List RequestAuthentication) → TakenItem x → rest ≡ [] → cons_option (as_request x) rest ≡ []
 unfolding TakenItem
-next_service (item.Pod p) rest t h = h
-next_service (item.Service s) rest t h = All-cons IsTcpService s rest t h
-next_service (item.Authorization p) rest t h = h
-next_service (item.Peer p) rest t h = h
-next_service (item.Request r) rest t h = h
-next_service (item.Mesh m) rest t h = h
-next_service item.Other rest t h = h
+next_request (item.Pod p) rest t h = h
+next_request (item.Service s) rest t h = h
+next_request (item.Authorization p) rest t h = h
+next_request (item.Peer p) rest t h = h
+next_request (item.Request r) rest t h = cc
+next_request (item.Mesh m) rest t h = h
+next_request item.Other rest t h = h
 
-services_of : (items : List Item) → All TakenItem items → All IsTcpService (filter_map as_service items)
-services_of [] h = All-nil IsTcpService
-services_of (x ∷ xs) h = next_service x _ (All-head TakenItem x xs h) (services_of xs (All-tail TakenItem x xs h))
+requests_of : (items : List Item) → All TakenItem items → filter_map as_request items ≡ []
+requests_of [] h = refl
+requests_of (x ∷ xs) h = next_request x _ (All-head TakenItem x xs h) (requests_of xs (All-tail TakenItem x xs h))
 
 no_place : (o : Option Fault) → option_map (λ fault. fault.place) o ≡ None → o ≡ None
 no_place None h = refl
@@ -108,6 +108,6 @@ unfolding not_yet bundle_in
 taken d h =
     let items = taken_items d (no_place _ h) in
     record {
-      policies = list_all-from_AllPass asks_nobody _ (policies_of (items_in d) items);
-      services = services_of (items_in d) items;
+      policies = list_all-from_AllPass is_told _ (policies_of (items_in d) items);
+      requests = requests_of (items_in d) items;
     }

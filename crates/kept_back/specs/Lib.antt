@@ -2,7 +2,6 @@ pub mod Fields
 pub mod Items
 pub mod Manifests
 pub mod Policies
-pub mod Services
 pub use Rattle.chain_build.specs.Buildable
 pub use Rattle.manifest_json.specs.Document
 pub use Rattle.mesh_doc.specs.Faults

@@ -7,7 +7,6 @@ ghost use Rattle.kept_back.specs.Items.{item_kept, kind_kept};
 
 use crate::fields::text_at;
 use crate::policies::read_policy;
-use crate::services::read_service;
 use mesh_doc::{DocError, Form, Reason, Spot};
 use serde_json::Value;
 use std::alloc::Global;
@@ -22,13 +21,9 @@ const ISTIO_V1: &str = "security.istio.io/v1";
 
 const ISTIO_V1BETA1: &str = "security.istio.io/v1beta1";
 
-const CORE_V1: &str = "v1";
-
 const AUTHORIZATION_POLICY: &str = "AuthorizationPolicy";
 
 const REQUEST_AUTHENTICATION: &str = "RequestAuthentication";
-
-const SERVICE: &str = "Service";
 
 /// An item of a document, of which the first place is told that no listener is built for.
 pub(crate) struct ItemEntry;
@@ -46,15 +41,12 @@ impl Form for ItemEntry {
     }
 }
 
-#[tactic(auto, using(crate::proofs::ItemKinds::of_policy, crate::proofs::ItemKinds::of_core, crate::proofs::ItemKinds::of_other))]
+#[tactic(auto, using(crate::proofs::ItemKinds::of_policy, crate::proofs::ItemKinds::of_other))]
 fn read_kind(alloc: Global, version: &str, kind: &str, v: &Value, at: &Spot) -> Result<(), DocError>
     ensures { Reads result (kind_kept (table.kind_of version.now kind.now) (view v.now) at.now) tt }
 {
     if is_policy_version(version) {
         return read_policy_kind(alloc, kind, v, at);
-    }
-    if version == CORE_V1 {
-        return read_core_kind(alloc, kind, v, at);
     }
     Ok(())
 }
@@ -73,15 +65,6 @@ fn read_policy_kind(alloc: Global, kind: &str, v: &Value, at: &Spot) -> Result<(
     }
     if kind == REQUEST_AUTHENTICATION {
         return Err(at.refuse(alloc, Reason::UnknownField));
-    }
-    Ok(())
-}
-
-fn read_core_kind(alloc: Global, kind: &str, v: &Value, at: &Spot) -> Result<(), DocError>
-    ensures { Reads result (kind_kept (table.core_kind kind.now) (view v.now) at.now) tt }
-{
-    if kind == SERVICE {
-        return read_service(alloc, v, at);
     }
     Ok(())
 }

@@ -5,7 +5,6 @@ mod fields;
 mod items;
 mod manifests;
 mod policies;
-mod services;
 mod words;
 
 pub use manifests::not_yet;

@@ -1,10 +1,10 @@
-// AuthorizationPolicies: every action but ALLOW and DENY, and what only a request has.
+// AuthorizationPolicies: every action but ALLOW and DENY, and what asks for the token of a request.
 ghost use Rattle.std.specs.Prelude.{◌≡◌, not};
 ghost use Rattle.serde_json.specs.View.{view};
 ghost use Rattle.mesh_doc.specs.Faults.{Reads};
 ghost use Rattle.kept_back.specs.Fields.{kept_unless};
 ghost use Rattle.kept_back.specs.Policies.{action_kept, is_decided_word, policy_kept, rule_kept, spec_kept};
-ghost use Rattle.kept_back.specs.Policies.{condition_kept, from_kept, is_request_key, operation_kept, source_kept, to_kept};
+ghost use Rattle.kept_back.specs.Policies.{condition_kept, from_kept, is_token_key, source_kept};
 
 use crate::fields::no_entries;
 use crate::items::SPEC;
@@ -24,8 +24,6 @@ const RULES: &str = "rules";
 
 const FROM: &str = "from";
 
-const TO: &str = "to";
-
 const WHEN: &str = "when";
 
 const SOURCE: &str = "source";
@@ -34,24 +32,10 @@ const REQUEST_PRINCIPALS: &str = "requestPrincipals";
 
 const NOT_REQUEST_PRINCIPALS: &str = "notRequestPrincipals";
 
-const OPERATION: &str = "operation";
-
-const HOSTS: &str = "hosts";
-
-const NOT_HOSTS: &str = "notHosts";
-
-const METHODS: &str = "methods";
-
-const NOT_METHODS: &str = "notMethods";
-
-const PATHS: &str = "paths";
-
-const NOT_PATHS: &str = "notPaths";
-
 const KEY: &str = "key";
 
-// what the keys begin with that only a request has
-const REQUEST: &str = "request.";
+// what the keys on the token of a request begin with
+const REQUEST_AUTH: &str = "request.auth.";
 
 /// Tells the first place of the policy `v` at `at` that no listener is built for.
 #[tactic(auto, unfolding(crate::specs::Policies::policy_kept))]
@@ -118,7 +102,6 @@ impl Form for RuleEntry {
     #[tactic(auto, unfolding(crate::specs::Policies::rule_kept))]
     fn read(alloc: Global, v: &Value, at: &Spot) -> Result<(), DocError> {
         listed::<FromEntry>(alloc, v, FROM, MOST_ENTRIES, at)?;
-        listed::<ToEntry>(alloc, v, TO, MOST_ENTRIES, at)?;
         listed::<ConditionEntry>(alloc, v, WHEN, MOST_ENTRIES, at)?;
         Ok(())
     }
@@ -157,43 +140,6 @@ impl Form for Source {
     }
 }
 
-// ---- operations
-
-struct ToEntry;
-
-impl Form for ToEntry {
-    type Out = ();
-
-    ghost faults = { to_kept };
-
-    ghost value = { λ _. tt };
-
-    #[tactic(auto, unfolding(crate::specs::Policies::to_kept))]
-    fn read(alloc: Global, v: &Value, at: &Spot) -> Result<(), DocError> {
-        or_empty::<Operation>(alloc, v, OPERATION, at)
-    }
-}
-
-struct Operation;
-
-impl Form for Operation {
-    type Out = ();
-
-    ghost faults = { operation_kept };
-
-    ghost value = { λ _. tt };
-
-    #[tactic(auto, unfolding(crate::specs::Policies::operation_kept))]
-    fn read(alloc: Global, v: &Value, at: &Spot) -> Result<(), DocError> {
-        no_entries(alloc, v, HOSTS, at)?;
-        no_entries(alloc, v, NOT_HOSTS, at)?;
-        no_entries(alloc, v, METHODS, at)?;
-        no_entries(alloc, v, NOT_METHODS, at)?;
-        no_entries(alloc, v, PATHS, at)?;
-        no_entries(alloc, v, NOT_PATHS, at)
-    }
-}
-
 // ---- conditions
 
 struct ConditionEntry;
@@ -217,24 +163,24 @@ struct KeyWord;
 impl Form for KeyWord {
     type Out = ();
 
-    ghost faults = { kept_unless (λ d. not (is_request_key d)) };
+    ghost faults = { kept_unless (λ d. not (is_token_key d)) };
 
     ghost value = { λ _. tt };
 
     fn read(alloc: Global, v: &Value, at: &Spot) -> Result<(), DocError> {
-        if is_request_key(v) {
+        if is_token_key(v) {
             return Err(at.refuse(alloc, Reason::UnknownField));
         }
         Ok(())
     }
 }
 
-#[tactic(auto, unfolding(crate::specs::Policies::is_request_key, mesh_doc::specs::Kinds::text_in))]
-fn is_request_key(v: &Value) -> bool
-    ensures { result ≡ is_request_key (view v.now) }
+#[tactic(auto, unfolding(crate::specs::Policies::is_token_key, mesh_doc::specs::Kinds::text_in))]
+fn is_token_key(v: &Value) -> bool
+    ensures { result ≡ is_token_key (view v.now) }
 {
     match v {
-        Value::String(key) => is_prefix(REQUEST, key.as_str()),
+        Value::String(key) => is_prefix(REQUEST_AUTH, key.as_str()),
         _ => false,
     }
 }

@@ -17,27 +17,27 @@ const REMOTE_IP: &str = "remote.ip";
 
 const DESTINATION_IP: &str = "destination.ip";
 
-const SOURCE_PRINCIPAL: &str = "source.principal";
+pub const SOURCE_PRINCIPAL: &str = "source.principal";
 
-const SOURCE_NAMESPACE: &str = "source.namespace";
+pub const SOURCE_NAMESPACE: &str = "source.namespace";
 
-const SNI: &str = "connection.sni";
+pub const SNI: &str = "connection.sni";
 
-const AUTH_PRINCIPAL: &str = "request.auth.principal";
+pub const AUTH_PRINCIPAL: &str = "request.auth.principal";
 
-const AUDIENCES: &str = "request.auth.audiences";
+pub const AUDIENCES: &str = "request.auth.audiences";
 
-const PRESENTER: &str = "request.auth.presenter";
+pub const PRESENTER: &str = "request.auth.presenter";
 
-const DESTINATION_PORT: &str = "destination.port";
+pub const DESTINATION_PORT: &str = "destination.port";
 
-const HEADERS: &str = "request.headers";
+pub const HEADERS: &str = "request.headers";
 
-const CLAIMS: &str = "request.auth.claims";
+pub const CLAIMS: &str = "request.auth.claims";
 
 /// The key of a condition, by the form that its values have.
 #[derive(Debug, Drop, PartialEq, Eq)]
-pub(crate) enum ConditionKey {
+pub enum ConditionKey {
     /// Texts.
     Words(TextKey),
     /// `request.auth.principal`: request principals.

@@ -3,7 +3,7 @@ use Rattle.mesh_policy.specs.AcceptedRules.{AcceptedCondition}
 use Rattle.authz_gen.proofs.Items.{item-is}
 use Rattle.authz_gen.proofs.rules.push_permissions.Goals as goal
 
-pub push_permission-requires : goal.push_permission-requires
-push_permission-requires c =
+pub push_tested_permission-requires : goal.push_tested_permission-requires
+push_tested_permission-requires c =
     item-is AcceptedCondition _ c.loop-condition.condition-index c.condition-item.result c.requires c.loop-condition-test.true
     c.condition-item.is
